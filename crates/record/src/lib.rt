@@ -1,0 +1,7 @@
+//! Records: the bytes of a run, their reader and their writer.
+pub mod fault;
+pub mod piece;
+pub mod stage;
+
+pub use fault::RecordFault;
+pub use fault::WriteFault;

@@ -1,0 +1,10 @@
+pub mod Below
+pub mod Tables
+pub mod Copies
+pub mod Rules
+pub mod Same
+pub mod Examined
+pub mod Stays
+pub mod Marks
+pub mod Refused
+pub mod Orderly
