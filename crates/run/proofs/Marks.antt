@@ -27,14 +27,14 @@ pub record Alike (e f : Event) : Type 0 where
 alike-self : (e : Event) → Alike e e
 alike-self e = record { kind = refl; thread = refl; step = refl; location = refl; value = refl }
 
-alike-flip : (e f : Event) → Alike e f → Alike f e
+pub alike-flip : (e f : Event) → Alike e f → Alike f e
 alike-flip e f a = record { kind = sym (a .kind); thread = sym (a .thread); step = sym (a .step); location = sym (a .location); value = sym (a .value) }
 
 -- what is said of an event's kind holds of one that is alike
 kind-along : (P : ℕ → Type 0) (e f : Event) → Alike e f → P (f .kind) → P (e .kind)
 kind-along P e f a p = subst P (sym (a .kind)) p
 
-write-along : (e f : Event) → Alike e f → Write f → Write e
+pub write-along : (e f : Event) → Alike e f → Write f → Write e
 write-along e f a w = kind-along (λ k. (k ≡ 1) ⊎ (k ≡ 4)) e f a w
 
 range-along : (e f : Event) → Alike e f → InRange f → InRange e

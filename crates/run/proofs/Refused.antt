@@ -7,6 +7,7 @@ use native.Mathlib.Omega.{arith}
 use lib.Dec.{eqb, ltb}
 use Rattle.std.specs.declared.option.Option.{Option}
 use Rattle.std.specs.declared.option.Option.the-variants.{None, Some}
+use Rattle.std.specs.declared.result.Result.the-variants.{Ok}
 use Rattle.std.specs.Options.{isSome}
 use Rattle.std.specs.Orderings.{Decides}
 use Rattle.std.proofs.shelf.Ways.{decides-and, decides-or, decides-not, decides-like, decides-at, decides-eqb, decides-ltb, not-from-decides}
@@ -112,12 +113,16 @@ agree-decided e f = decides-and _ _ (place-decided e f) (decides-eqb (e .value) 
 agree-at : (run : Run) (r w : ℕ) (e f : Event) → Stands run r e → Stands run w f → agree (shown run r) (shown run w) ≡ (same-place e f && eqb (e .value) (f .value))
 agree-at run r w e f s t = rw (stands-shown run r e s, stands-shown run w f t) refl
 
+-- events that agree are no mismatch
+no-mismatch : (run : Run) (r w : ℕ) (e f : Event) → Stands run r e → Stands run w f → Agree e f → Applies Mismatch run (Tie r w) → ⊥
+no-mismatch run r w e f s t agrees h = h .2 .2 (subst (λ v. Agree v (h .2 .0)) (one-event run r e (h .0) s (h .1)) (subst (λ v. Agree e v) (one-event run w f (h .2 .0) t (h .2 .1)) agrees))
+
 mismatch-decided : (run : Run) (r w : ℕ) (e f : Event) → Stands run r e → Stands run w f → Decides (not (agree (shown run r) (shown run w))) (Applies Mismatch run (Tie r w))
 mismatch-decided run r w e f s t =
     decides-at _ _ (ap not (agree-at run r w e f s t))
     (decides-like _
     (λ no. (e, s, (f, t, no)))
-    (λ h agrees. h .2 .2 (subst (λ v. Agree v (h .2 .0)) (one-event run r e (h .0) s (h .1)) (subst (λ v. Agree e v) (one-event run w f (h .2 .0) t (h .2 .1)) agrees)))
+    (λ h agrees. no-mismatch run r w e f s t agrees h)
     (decides-not _ (agree-decided e f)))
 
 -- Settle
@@ -274,3 +279,25 @@ opened run (Settle n) h =
       writes = w .2;
       only = only-settled-decided run n (w .0) .0 (ap not (sym (ap (λ o. holds o (some-linked link.OtherSettled run n)) (stands-shown run n (w .0) (w .1))) ∙ t .1));
     }
+
+-- to a step no refusal applies
+pub open-answers : (run : Run) (a : Action) → Open run a → Answers run a (Ok tt)
+open-answers run (Enter x) good =
+    λ g.
+    below-enter run x 16
+    (λ _ h. ⊎-elim (λ l. omega (arith, l, good .below)) (λ s. let clash : Some (s .0) ≡ None = sym (s .1 .1) ∙ good .free in let z : _≡_ {A = ℕ} 0 1 = cc in omega arith) h)
+    (λ _ h. h (good .ranged))
+    (λ _ h. h (entry-steps run (x .number) (fresh x) .0 (good .steps), entry-initials run (x .number) (fresh x) .0 (good .initials)))
+    g (numbered g)
+open-answers run (Tie r w) good =
+    λ g.
+    below-tie run r w 16
+    (λ _ h. ⊎-elim (λ n. n (good .read, good .read-stands, good .reads)) (λ n. n (good .write, good .write-stands, good .writes)) h)
+    (λ _. no-mismatch run r w (good .read) (good .write) (good .read-stands) (good .write-stands) (good .place, good .same))
+    g (numbered g)
+open-answers run (Settle n) good =
+    λ g.
+    below-settle run n 16
+    (λ _ h. h (good .write, good .stands, good .writes))
+    (λ _ h. h .2 .1 (good .only (h .2 .0) (h .2 .2 .0) (h .2 .2 .1) (h .2 .2 .2 .0) (h .2 .2 .2 .1) (h .2 .2 .2 .2 ∙ ap (λ (v : Event). v .location) (one-event run n (h .0) (good .write) (h .1) (good .stands)))))
+    g (numbered g)

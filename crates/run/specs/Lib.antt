@@ -6,3 +6,4 @@ pub mod Steps
 pub mod Refusals
 pub mod Tests
 pub mod Benches
+pub mod Windows

@@ -10,6 +10,7 @@ pub mod snapshot;
 pub mod sound;
 pub mod source;
 pub mod take;
+pub mod window;
 
 pub use action::Action;
 pub use bench::Bench;
@@ -22,3 +23,5 @@ pub use rule::Rule;
 pub use snapshot::Snapshot;
 pub use sound::soundness;
 pub use source::RunSource;
+pub use window::Window;
+pub use window::WindowFault;
