@@ -1,5 +1,10 @@
 pub mod Begins
 pub mod Turns
+pub mod Pieces
+pub mod Verdicts
+pub mod Walks
+pub mod Splits
+pub mod Readable
 pub mod Short
 pub mod Leads
 pub mod Halfway

@@ -1,10 +1,14 @@
 -- The record: which bytes spell which calls. Assumes nothing.
 use mathlib.Core.Path.{_≡_}
 use mathlib.Core.List.{List, [], _∷_, _++_}
-use Prim.Native.Nat.{ℕ, _/_, _%_}
-use lib.ListN.{length}
+use Prim.Native.Nat.{ℕ, _<_, _/_, _%_}
+use lib.ListN.{length, getD}
 use Rattle.run.specs.declared.action.Action.{Action}
 use Rattle.run.specs.declared.action.Action.the-variants.{Enter, Tie, Settle}
+
+-- every item is a byte
+abbrev pub Bytes : List ℕ → Type 0
+Bytes bytes = (k : ℕ) → getD bytes k 0 < 256
 
 -- a number of 32 bits in four bytes, high byte first
 abbrev pub word : ℕ → List ℕ

@@ -1,6 +1,5 @@
 //! Records: the bytes of a run, their reader and their writer.
 pub mod fault;
-pub mod law;
 pub mod piece;
 mod read;
 pub mod stage;

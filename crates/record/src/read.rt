@@ -4,6 +4,7 @@ ghost use Prim.Native.Nat.{_+_, _≤_};
 ghost use lib.ListN.{length, drop};
 ghost use denote.Ref.{now};
 ghost use Rattle.record.specs.Reading.{piece-of, misfit, call-fault, reached, record-run, shape-fault, read-fault};
+ghost use Rattle.record.specs.Readings.{Read, Faulty, One-reading, One-run};
 ghost use Rattle.std.specs.Results.{Cases};
 ghost use Rattle.run.specs.Benches.{bench-run};
 ghost use Rattle.std.specs.declared.option.Option.the-variants.{None, Some};
@@ -32,7 +33,11 @@ fn misfit(bytes: &[u8]) -> Option<usize>
         match piece_of(rest(bytes, at)) {
             Piece::Call(_, length) => at += length,
             Piece::End => {
-                return if bytes.len() - at == 3 { None } else { Some(at + 3) };
+                return if bytes.len() - at == 3 {
+                    None
+                } else {
+                    Some(at + 3)
+                };
             }
             Piece::Wrong => return Some(at),
         }
@@ -93,10 +98,12 @@ fn fault(bytes: &[u8]) -> Option<RecordFault>
 }
 
 impl<'a> Record<'a> {
-    /// Reads bytes as a record: every field's shape first, then the calls.
+    /// Reads bytes as a record: every field's shape first, then the calls. Refused with the first listed fault at its
+    /// lowest place, and no bytes have two answers; accepted, it shows the run of a new bench after its calls.
     pub fn read(bytes: &'a [u8]) -> Result<Record<'a>, RecordFault>
+        ensures reads { λ r. ⌜ Cases r (λ k. Read (now (bytes .entry)) (record-run (now (k .bytes))) None) (λ f. Faulty (now (bytes .entry)) f) ⌝ }
+        ensures one { λ _. ⌜ One-reading (now (bytes .entry)) × One-run (now (bytes .entry)) ⌝ }
         ensures same { λ r. ⌜ Cases r (λ k. now (k .bytes) ≡ now (bytes .entry)) (λ f. Unit {0}) ⌝ }
-        ensures fault { λ r. ⌜ Cases r (λ k. read-fault (now (bytes .entry)) ≡ None) (λ f. read-fault (now (bytes .entry)) ≡ Some f) ⌝ }
     {
         if let Some(fault) = fault(bytes) {
             return Err(fault);

@@ -5,10 +5,10 @@ ghost use denote.Ref.{now};
 ghost use Rattle.run.specs.Runs.{Run, shown};
 ghost use Rattle.run.specs.Windows.{within, windowed, Shows-location, window-refusal};
 ghost use Rattle.std.specs.Results.{Cases};
-use refusal::Part;
-use refusal::Refusal;
 use super::event::Event;
 use super::source::RunSource;
+use refusal::Part;
+use refusal::Refusal;
 
 /// A source of which only the reads and writes of one location show.
 #[derive(Drop)]
