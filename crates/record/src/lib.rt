@@ -1,8 +1,9 @@
 //! Records: the bytes of a run, their reader and their writer.
 pub mod fault;
 pub mod piece;
-mod read;
+pub mod read;
 pub mod stage;
 
 pub use fault::RecordFault;
 pub use fault::WriteFault;
+pub use read::Record;
