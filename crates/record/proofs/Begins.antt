@@ -4,7 +4,7 @@ use mathlib.Core.Bool.{true, false}
 use mathlib.Core.List.{List}
 use Prim.Native.Nat.{ℕ}
 use lib.ListN.{getD}
-use Rattle.run.specs.declared.action.Action.the-variants.{Tie, Settle}
+use Rattle.bench.specs.declared.action.Action.the-variants.{Tie, Settle}
 use Rattle.record.specs.declared.piece.Piece.the-variants.{Call, End, Wrong}
 use Rattle.record.specs.Reading.{headed, piece-of, entry-at}
 

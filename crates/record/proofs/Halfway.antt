@@ -11,9 +11,9 @@ use Rattle.std.specs.Options.{mapped}
 use Rattle.std.proofs.shelf.Tests.{cases-eq, cases-lt, lt-ltb, le-ltb}
 use Rattle.run.specs.declared.event.Event.{Event}
 use Rattle.run.specs.Runs.{Run, Stands}
-use Rattle.run.specs.Steps.{put}
-use Rattle.run.proofs.Stays.{put-here, put-there}
-use Rattle.run.proofs.Marks.{Alike}
+use Rattle.bench.specs.Steps.{put}
+use Rattle.bench.proofs.Stays.{put-here, put-there}
+use Rattle.bench.proofs.Marks.{Alike}
 use Rattle.record.specs.declared.stage.Stage.{Stage}
 use Rattle.record.specs.declared.stage.Stage.the-variants.{Entries, Ties, Settlings}
 use Rattle.record.specs.RoundTrip.{Confined}

@@ -3,11 +3,11 @@ use mathlib.Core.Path.{_≡_, sym, subst}
 use mathlib.Core.List.{List, [], _∷_, _++_}
 use Rattle.std.specs.declared.option.Option.{Option}
 use Rattle.std.specs.declared.option.Option.the-variants.{None, Some}
-use Rattle.run.specs.declared.action.Action.{Action}
+use Rattle.bench.specs.declared.action.Action.{Action}
 use Rattle.run.specs.Runs.{Run}
-use Rattle.run.specs.Steps.{taken, led}
-use Rattle.run.proofs.Stays.{Open}
-use Rattle.run.proofs.Refused.{open-answers}
+use Rattle.bench.specs.Steps.{taken, led}
+use Rattle.bench.proofs.Stays.{Open}
+use Rattle.bench.proofs.Refused.{open-answers}
 use Rattle.record.specs.Readings.{Accepted}
 use Rattle.record.specs.Writing.{also}
 

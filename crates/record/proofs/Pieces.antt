@@ -8,8 +8,8 @@ use lib.Dec.{leb}
 use lib.ListN.{length, getD, drop}
 use lib.Seq.{drop-cons}
 use Rattle.std.proofs.shelf.Tests.{and-parts, and-from, and-left, and-right, leb-true, eqb-true, le-leb, eq-eqb, ne-eqb, cond-both}
-use Rattle.run.specs.declared.action.Action.{Action}
-use Rattle.run.specs.declared.action.Action.the-variants.{Enter, Tie, Settle}
+use Rattle.bench.specs.declared.action.Action.{Action}
+use Rattle.bench.specs.declared.action.Action.the-variants.{Enter, Tie, Settle}
 use Rattle.record.specs.declared.piece.Piece.{Piece}
 use Rattle.record.specs.declared.piece.Piece.the-variants.{Call, End, Wrong}
 use Rattle.record.specs.Format.{Bytes, word, spell, end}

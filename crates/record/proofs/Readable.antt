@@ -11,10 +11,10 @@ use Rattle.std.proofs.shelf.Tests.{lt-ltb, le-ltb, ne-eqb, cases-lt}
 use Rattle.std.specs.declared.option.Option.{Option}
 use Rattle.std.specs.declared.option.Option.the-variants.{None, Some}
 use Rattle.std.specs.Options.{orOther}
-use Rattle.run.specs.declared.action.Action.{Action}
-use Rattle.run.specs.declared.fault.BenchFault.{BenchFault}
+use Rattle.bench.specs.declared.action.Action.{Action}
+use Rattle.bench.specs.declared.fault.BenchFault.{BenchFault}
 use Rattle.run.specs.Runs.{Run, nothing}
-use Rattle.run.specs.Steps.{led}
+use Rattle.bench.specs.Steps.{led}
 use Rattle.record.specs.declared.fault.RecordFault.{RecordFault}
 use Rattle.record.specs.declared.fault.RecordFault.the-variants.{TooLong, Shape, Call}
 use Rattle.record.specs.Format.{Bytes, spell, spelled, end, Spells}

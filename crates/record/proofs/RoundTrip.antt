@@ -2,7 +2,7 @@
 use mathlib.Core.Path.{refl, sym, subst₂}
 use native.Mathlib.Omega.{arith}
 use Rattle.run.specs.Runs.{Run, nothing}
-use Rattle.run.specs.Rules.{Orderly}
+use Rattle.bench.specs.Keeps.{Orderly}
 use Rattle.record.specs.declared.stage.Stage.{Stage}
 use Rattle.record.specs.declared.stage.Stage.the-variants.{Entries, Ties, Settlings}
 use Rattle.record.specs.RoundTrip.{Confined, Round-trip}

@@ -5,8 +5,8 @@ use native.Mathlib.Omega.{arith}
 use lib.ListN.{length, length-append}
 use Rattle.std.specs.declared.option.Option.{Option}
 use Rattle.std.specs.declared.option.Option.the-variants.{None, Some}
-use Rattle.run.specs.declared.action.Action.{Action}
-use Rattle.run.specs.declared.action.Action.the-variants.{Enter, Tie, Settle}
+use Rattle.bench.specs.declared.action.Action.{Action}
+use Rattle.bench.specs.declared.action.Action.the-variants.{Enter, Tie, Settle}
 use Rattle.run.specs.Runs.{Run}
 use Rattle.record.specs.declared.stage.Stage.{Stage}
 use Rattle.record.specs.declared.stage.Stage.the-variants.{Entries, Ties, Settlings}

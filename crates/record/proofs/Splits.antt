@@ -9,13 +9,13 @@ use Rattle.std.proofs.shelf.Lists.{getD-drop}
 use Rattle.std.specs.declared.option.Option.{Option}
 use Rattle.std.specs.declared.option.Option.the-variants.{None, Some}
 use Rattle.std.specs.declared.result.Result.the-variants.{Err}
-use Rattle.run.specs.declared.action.Action.{Action}
-use Rattle.run.specs.declared.fault.BenchFault.{BenchFault}
-use Rattle.run.specs.Refusals.{Answers}
+use Rattle.bench.specs.declared.action.Action.{Action}
+use Rattle.bench.specs.declared.fault.BenchFault.{BenchFault}
+use Rattle.bench.specs.Refusals.{Answers}
 use Rattle.run.specs.Runs.{Run}
-use Rattle.run.specs.Steps.{taken, led}
-use Rattle.run.specs.Tests.{refusal, answer}
-use Rattle.run.proofs.Refused.{answered}
+use Rattle.bench.specs.Steps.{taken, led}
+use Rattle.bench.specs.Tests.{refusal, answer}
+use Rattle.bench.proofs.Refused.{answered}
 use Rattle.record.specs.declared.piece.Piece.{Piece}
 use Rattle.record.specs.declared.piece.Piece.the-variants.{Call, End, Wrong}
 use Rattle.record.specs.Format.{Bytes, spell, spelled, end, Spells}

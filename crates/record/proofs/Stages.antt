@@ -9,12 +9,12 @@ use Rattle.std.specs.declared.option.Option.the-variants.{None, Some}
 use Rattle.std.specs.Options.{mapped}
 use Rattle.std.proofs.shelf.Tests.{cases-lt}
 use Rattle.run.specs.declared.event.Event.{Event}
-use Rattle.run.specs.declared.action.Action.the-variants.{Tie, Settle}
+use Rattle.bench.specs.declared.action.Action.the-variants.{Tie, Settle}
 use Rattle.run.specs.Runs.{Run, Stands}
-use Rattle.run.specs.Rules.{Orderly}
-use Rattle.run.specs.Steps.{sourced, final}
-use Rattle.run.proofs.Stays.{Open}
-use Rattle.run.proofs.Marks.{Alike, alike-flip, write-along}
+use Rattle.bench.specs.Keeps.{Orderly}
+use Rattle.bench.specs.Steps.{sourced, final}
+use Rattle.bench.proofs.Stays.{Open}
+use Rattle.bench.proofs.Marks.{Alike, alike-flip, write-along}
 use Rattle.record.specs.declared.stage.Stage.{Stage}
 use Rattle.record.specs.declared.stage.Stage.the-variants.{Entries, Ties, Settlings}
 use Rattle.record.specs.Writing.{entering, tying, settling, call-of, calls-below}

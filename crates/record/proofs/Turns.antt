@@ -11,11 +11,11 @@ use Rattle.std.specs.declared.option.Option.the-variants.{None, Some}
 use Rattle.std.specs.declared.result.Result.the-variants.{Ok, Err}
 use Rattle.std.proofs.shelf.Lists.{drop-drop}
 use Rattle.std.proofs.shelf.Tests.{and-parts, leb-true, eq-eqb, ne-eqb}
-use Rattle.run.specs.declared.action.Action.{Action}
-use Rattle.run.specs.declared.fault.BenchFault.{BenchFault}
+use Rattle.bench.specs.declared.action.Action.{Action}
+use Rattle.bench.specs.declared.fault.BenchFault.{BenchFault}
 use Rattle.run.specs.Runs.{Run}
-use Rattle.run.specs.Steps.{taken}
-use Rattle.run.specs.Tests.{refusal, answer}
+use Rattle.bench.specs.Steps.{taken}
+use Rattle.bench.specs.Tests.{refusal, answer}
 use Rattle.record.specs.declared.fault.RecordFault.{RecordFault}
 use Rattle.record.specs.declared.fault.RecordFault.the-variants as fault
 use Rattle.record.specs.declared.piece.Piece.{Piece}

@@ -8,14 +8,14 @@ use Rattle.std.specs.declared.option.Option.{Option}
 use Rattle.std.specs.declared.option.Option.the-variants.{None, Some}
 use Rattle.std.specs.declared.result.Result.the-variants.{Ok, Err}
 use Rattle.std.proofs.shelf.Tests.{cases-order}
-use Rattle.run.specs.declared.action.Action.{Action}
-use Rattle.run.specs.declared.fault.BenchFault.{BenchFault}
-use Rattle.run.specs.declared.fault.BenchFault.the-variants.{BadNumber, OutOfRange, Clash, NoPair, Mismatch, NoWrite, OtherSettled}
-use Rattle.run.specs.Numbers.{bench-refusal}
-use Rattle.run.specs.Refusals.{Answers}
+use Rattle.bench.specs.declared.action.Action.{Action}
+use Rattle.bench.specs.declared.fault.BenchFault.{BenchFault}
+use Rattle.bench.specs.declared.fault.BenchFault.the-variants.{BadNumber, OutOfRange, Clash, NoPair, Mismatch, NoWrite, OtherSettled}
+use Rattle.bench.specs.Numbers.{bench-refusal}
+use Rattle.bench.specs.Refusals.{Answers}
 use Rattle.run.specs.Runs.{Run}
-use Rattle.run.specs.Tests.{refusal, answer}
-use Rattle.run.proofs.Refused.{answered}
+use Rattle.bench.specs.Tests.{refusal, answer}
+use Rattle.bench.proofs.Refused.{answered}
 
 -- the fault with a number
 fault-at : ℕ → BenchFault

@@ -7,11 +7,11 @@ use native.Mathlib.Omega.{arith}
 use lib.Dec.{eqb}
 use lib.ListN.{length, length-append}
 use Rattle.std.specs.declared.option.Option.the-variants.{None, Some}
-use Rattle.run.specs.declared.action.Action.{Action}
-use Rattle.run.specs.declared.fault.BenchFault.{BenchFault}
+use Rattle.bench.specs.declared.action.Action.{Action}
+use Rattle.bench.specs.declared.fault.BenchFault.{BenchFault}
 use Rattle.run.specs.Runs.{Run}
-use Rattle.run.specs.Steps.{taken, led}
-use Rattle.run.specs.Tests.{refusal}
+use Rattle.bench.specs.Steps.{taken, led}
+use Rattle.bench.specs.Tests.{refusal}
 use Rattle.record.specs.declared.fault.RecordFault.the-variants.{Call}
 use Rattle.record.specs.declared.piece.Piece.{Piece}
 use Rattle.record.specs.declared.piece.Piece.the-variants.{End, Wrong}

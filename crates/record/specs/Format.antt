@@ -3,8 +3,8 @@ use mathlib.Core.Path.{_≡_}
 use mathlib.Core.List.{List, [], _∷_, _++_}
 use Prim.Native.Nat.{ℕ, _<_, _/_, _%_}
 use lib.ListN.{length, getD}
-use Rattle.run.specs.declared.action.Action.{Action}
-use Rattle.run.specs.declared.action.Action.the-variants.{Enter, Tie, Settle}
+use Rattle.bench.specs.declared.action.Action.{Action}
+use Rattle.bench.specs.declared.action.Action.the-variants.{Enter, Tie, Settle}
 
 -- every item is a byte
 abbrev pub Bytes : List ℕ → Type 0

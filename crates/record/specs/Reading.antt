@@ -9,12 +9,12 @@ use Rattle.std.specs.declared.option.Option.the-variants.{None, Some}
 use Rattle.std.specs.Options.{orOther}
 use Rattle.refusal.specs.declared.Refusal.{Refusal}
 use Rattle.refusal.specs.declared.Part.the-variants.{Record, Writer}
-use Rattle.run.specs.declared.action.Action.{Action}
-use Rattle.run.specs.declared.action.Action.the-variants.{Enter, Tie, Settle}
-use Rattle.run.specs.declared.fault.BenchFault.{BenchFault}
+use Rattle.bench.specs.declared.action.Action.{Action}
+use Rattle.bench.specs.declared.action.Action.the-variants.{Enter, Tie, Settle}
+use Rattle.bench.specs.declared.fault.BenchFault.{BenchFault}
 use Rattle.run.specs.Runs.{Run, nothing}
-use Rattle.run.specs.Steps.{taken}
-use Rattle.run.specs.Tests.{refusal}
+use Rattle.bench.specs.Steps.{taken}
+use Rattle.bench.specs.Tests.{refusal}
 use Rattle.record.specs.declared.fault.RecordFault.{RecordFault}
 use Rattle.record.specs.declared.fault.RecordFault.the-variants.{TooLong, Shape, Call}
 use Rattle.record.specs.declared.piece.Piece.{Piece}

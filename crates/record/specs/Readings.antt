@@ -7,11 +7,11 @@ use lib.ListN.{length}
 use Rattle.std.specs.declared.option.Option.{Option}
 use Rattle.std.specs.declared.option.Option.the-variants.{None, Some}
 use Rattle.std.specs.declared.result.Result.the-variants.{Ok, Err}
-use Rattle.run.specs.declared.action.Action.{Action}
-use Rattle.run.specs.declared.fault.BenchFault.{BenchFault}
-use Rattle.run.specs.Refusals.{Answers}
+use Rattle.bench.specs.declared.action.Action.{Action}
+use Rattle.bench.specs.declared.fault.BenchFault.{BenchFault}
+use Rattle.bench.specs.Refusals.{Answers}
 use Rattle.run.specs.Runs.{Run, nothing}
-use Rattle.run.specs.Steps.{taken, led}
+use Rattle.bench.specs.Steps.{taken, led}
 use Rattle.record.specs.declared.fault.RecordFault.{RecordFault}
 use Rattle.record.specs.declared.fault.RecordFault.the-variants.{TooLong, Shape, Call}
 use Rattle.record.specs.Format.{spell, spelled, end, Spells}

@@ -3,7 +3,7 @@ use mathlib.Core.Path.{_≡_}
 use Prim.Native.Nat.{ℕ, _≤_}
 use lib.ListN.{length}
 use Rattle.std.specs.declared.option.Option.the-variants.{None}
-use Rattle.run.specs.Rules.{Orderly}
+use Rattle.bench.specs.Keeps.{Orderly}
 use Rattle.run.specs.Runs.{Run}
 use Rattle.record.specs.Readings.{Holds}
 use Rattle.record.specs.Writing.{record-bytes}

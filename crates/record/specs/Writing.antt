@@ -5,8 +5,8 @@ use Prim.Native.Nat.{ℕ, zero, suc}
 use Rattle.std.specs.declared.option.Option.{Option}
 use Rattle.std.specs.declared.option.Option.the-variants.{None, Some}
 use Rattle.run.specs.declared.event.Event.{Event}
-use Rattle.run.specs.declared.action.Action.{Action}
-use Rattle.run.specs.declared.action.Action.the-variants.{Enter, Tie, Settle}
+use Rattle.bench.specs.declared.action.Action.{Action}
+use Rattle.bench.specs.declared.action.Action.the-variants.{Enter, Tie, Settle}
 use Rattle.run.specs.Runs.{Run, shown}
 use Rattle.record.specs.Format.{spelled, end}
 use Rattle.record.specs.declared.stage.Stage.{Stage}

@@ -1,11 +1,11 @@
 //! The faults of a record.
 ghost use mathlib.Core.Path.{_≡_};
 ghost use Rattle.record.specs.Reading.{record-refusal, writer-refusal};
+use bench::BenchFault;
+use bench::fault::BenchFaultDebug;
+use bench::fault::BenchFaultPartialEq;
 use refusal::Part;
 use refusal::Refusal;
-use run::BenchFault;
-use run::fault::BenchFaultDebug;
-use run::fault::BenchFaultPartialEq;
 
 /// Why bytes are refused as a record. A place is that of a byte, counted from 0.
 #[derive(Clone, Copy, PartialEq, Eq, Debug)]

@@ -3,8 +3,8 @@ ghost use mathlib.Core.Path.{_≡_};
 ghost use Prim.Native.Nat.{_+_, _≤_};
 ghost use lib.ListN.{length, drop};
 ghost use Rattle.record.specs.Reading.{headed, piece-of, entry-at};
-use run::Action;
-use run::Entry;
+use bench::Action;
+use bench::Entry;
 
 /// What stands at a place of a record.
 #[derive(Clone, Copy)]
@@ -45,7 +45,7 @@ fn entry_at(bytes: &[u8]) -> Action
 }
 
 /// What stands at the beginning of the rest of a record.
-pub fn piece_of(bytes: &[u8]) -> Piece
+pub(crate) fn piece_of(bytes: &[u8]) -> Piece
     ensures { λ r. ⌜ r ≡ piece-of (now (bytes .entry)) ⌝ }
 {
     if headed(bytes, 1, 9) {

@@ -6,15 +6,15 @@ ghost use denote.Ref.{now};
 ghost use Rattle.record.specs.Reading.{piece-of, misfit, call-fault, reached, record-run, shape-fault, read-fault};
 ghost use Rattle.record.specs.Readings.{Read, Faulty, One-reading, One-run};
 ghost use Rattle.std.specs.Results.{Cases};
-ghost use Rattle.run.specs.Benches.{bench-run};
+ghost use Rattle.bench.specs.Benches.{bench-run};
 ghost use Rattle.std.specs.declared.option.Option.the-variants.{None, Some};
 use super::fault::RecordFault;
 use super::piece::Piece;
 use super::piece::piece_of;
-use run::Bench;
+use bench::Bench;
+use bench::bench::calls::BenchSource;
 use run::Event;
 use run::RunSource;
-use run::bench::calls::BenchSource;
 
 /// The rest of a record behind a place.
 fn rest(bytes: &[u8], at: usize) -> &[u8]

@@ -4,7 +4,3 @@ pub mod Copies
 pub mod Rules
 pub mod Same
 pub mod Examined
-pub mod Stays
-pub mod Marks
-pub mod Refused
-pub mod Orderly

@@ -1,11 +1,8 @@
 -- Events by their kind, and the range of each field. Assumes nothing.
 use mathlib.Core.Path.{_≡_}
 use mathlib.Core.Logic.{_⊎_}
-use mathlib.Core.Bool.{false}
-use Prim.Native.Nat.{ℕ, _≤_}
-use Rattle.std.specs.declared.option.Option.the-variants.{None}
+use Prim.Native.Nat.{_≤_}
 use Rattle.run.specs.declared.event.Event.{Event}
-use Rattle.run.specs.declared.event.Entry.{Entry}
 
 -- kind 0 is a read
 abbrev pub Read : Event → Type 0
@@ -47,7 +44,3 @@ pub record InRange (e : Event) : Type 0 where
   pub located : Memory e → e .location ≤ 15
   -- fences and branches have location 0 and value 0
   pub placeless : Placeless e → (e .location ≡ 0) × (e .value ≡ 0)
-
--- the event that an entry puts down: no source, not settled
-abbrev pub fresh : Entry → Event
-fresh x = record { kind = x .kind; thread = x .thread; step = x .step; location = x .location; value = x .value; source = None; settled = false }

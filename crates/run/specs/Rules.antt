@@ -68,13 +68,3 @@ pub record FirstBreach (run : Run) (b : Breach) : Type 0 where
 abbrev pub Examined : Run → Option Breach → Type 0
 Examined run None = Sound run
 Examined run (Some b) = FirstBreach run b
-
--- what every bench keeps at every moment
-pub record Orderly (run : Run) : Type 0 where
-  -- the first four rules
-  pub ranges : Kept Ranges run
-  pub steps : Kept Steps run
-  pub initials : Kept Initials run
-  pub sources : Kept Sources run
-  -- only writes are settled, at most one in a location
-  pub settlings : (n : ℕ) (e : Event) → Stands run n e → e .settled ≡ true → Write e × OnlySettled run n e

@@ -1,29 +1,19 @@
 -- The rules as tests that compute, for the code. proofs/Rules shows that each test decides its rule. Assumes nothing.
 use mathlib.Core.Path.{_≡_}
-use mathlib.Core.Bool.{Bool, true, false, not, _&&_, _||_, cond}
+use mathlib.Core.Bool.{Bool, true, false, not, _&&_, _||_}
 use mathlib.Core.List.{List}
 use Prim.Native.Nat.{ℕ, zero, suc, _<_}
-use lib.Dec.{eqb, leb, ltb}
+use lib.Dec.{eqb, leb}
 use lib.ListN.{getD}
 use Rattle.std.specs.declared.option.Option.{Option}
 use Rattle.std.specs.declared.option.Option.the-variants.{None, Some}
 use Rattle.std.specs.Options.{isSome}
-use Rattle.std.specs.declared.result.Result.{Result}
-use Rattle.std.specs.declared.result.Result.the-variants.{Ok, Err}
 use Rattle.run.specs.declared.event.Event.{Event}
-use Rattle.run.specs.declared.event.Entry.{Entry}
-use Rattle.run.specs.declared.action.Action.{Action}
-use Rattle.run.specs.declared.action.Action.the-variants.{Enter, Tie, Settle}
-use Rattle.run.specs.declared.fault.BenchFault.{BenchFault}
-use Rattle.run.specs.declared.fault.BenchFault.the-variants.{BadNumber, OutOfRange, Clash, NoPair, Mismatch, NoWrite}
-use Rattle.run.specs.declared.fault.BenchFault.the-variants as fault
 use Rattle.run.specs.declared.link.Link.{Link}
 use Rattle.run.specs.declared.link.Link.the-variants.{SameStep, Twin, Source, OtherSettled, OtherWrite, Origin}
 use Rattle.run.specs.declared.rule.Rule.{Rule}
 use Rattle.run.specs.declared.rule.Rule.the-variants.{Ranges, Steps, Initials, Sources, Settlings, Initialised, Tied}
-use Rattle.run.specs.Events.{fresh}
-use Rattle.run.specs.Runs.{Run, shown}
-use Rattle.run.specs.Steps.{taken}
+use Rattle.run.specs.Runs.{Run}
 
 -- the run that a table of 32 answers holds
 abbrev pub table-run : List (Option Event) → Run
@@ -115,43 +105,3 @@ pub record LowestAt (p : ℕ → Bool) (k : ℕ) : Type 0 where
 abbrev pub Lowest : (ℕ → Bool) → Option ℕ → Type 0
 Lowest p None = (j : ℕ) → j < 32 → p j ≡ false
 Lowest p (Some k) = LowestAt p k
-
--- no event breaks the rule
-abbrev pub NoneFaulty : Rule → Run → Type 0
-NoneFaulty rule run = (n : ℕ) → n < 32 → faulty rule run n ≡ false
-
--- no event is settled out of place
-abbrev pub NoneMisplaced : Run → Type 0
-NoneMisplaced run = (n : ℕ) → n < 32 → holds (run n) (misplaced run n) ≡ false
-
--- the number of an entry is above 31 or standing
-abbrev pub bad-number : Run → ℕ → Bool
-bad-number run n = ltb 31 n || isSome (run n)
-
--- an entry breaks the rule of steps or that of initial writes
-abbrev pub clashes : Run → ℕ → Event → Bool
-clashes run n e = broken Steps run n e || broken Initials run n e
-
--- what stands at the two numbers agrees in location and value
-abbrev pub agree : Option Event → Option Event → Bool
-agree o p = holds o (λ e. holds p (λ f. same-place e f && eqb (e .value) (f .value)))
-
--- the first listed refusal of an action that applies
-abbrev pub refusal : Run → Action → Option BenchFault
-refusal run (Enter x) =
-    cond (bad-number run (x .number)) (Some BadNumber)
-    (cond (not (in-range (fresh x))) (Some OutOfRange) (cond (clashes run (x .number) (fresh x)) (Some Clash) None))
-refusal run (Tie r w) =
-    cond (holds (shown run r) is-read && holds (shown run w) is-write) (cond (agree (shown run r) (shown run w)) None (Some Mismatch)) (Some NoPair)
-refusal run (Settle n) =
-    cond (holds (shown run n) is-write) (cond (holds (shown run n) (some-linked OtherSettled run n)) (Some fault.OtherSettled) None) (Some NoWrite)
-
--- a refusal as the answer of the call
-abbrev pub answer : Option BenchFault → Result (Unit {0}) BenchFault
-answer None = Ok tt
-answer (Some f) = Err f
-
--- the run after a call: the step taken, or the run as it was where the call is refused
-abbrev pub stepped : Option BenchFault → Run → Action → Run
-stepped None run a = taken run a
-stepped (Some f) run a = run

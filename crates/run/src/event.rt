@@ -23,14 +23,3 @@ pub struct Event {
     pub source: Option<u8>,
     pub settled: bool,
 }
-
-/// What enter puts down: an event's number and fields, as yet with no source and not settled.
-#[derive(Clone, Copy, PartialEq, Eq, Debug)]
-pub struct Entry {
-    pub number: u8,
-    pub kind: u8,
-    pub thread: u8,
-    pub step: u8,
-    pub location: u8,
-    pub value: u32,
-}

@@ -53,7 +53,7 @@ impl Event {
     }
 
     /// Whether its thread is that of a core, 1 to 8.
-    pub fn is_threaded(&self) -> bool
+    pub(crate) fn is_threaded(&self) -> bool
         ensures { λ r. ⌜ r ≡ is-threaded (now (self .entry)) ⌝ }
     {
         (1 <= self.thread) & (self.thread <= 8)
@@ -98,7 +98,7 @@ fn sourced_at(source: Option<u8>, number: u8) -> bool
 }
 
 /// Whether the event `other` at `m` stands so to the event `event` at `n`.
-pub fn linked(link: Link, n: u8, event: &Event, m: u8, other: &Event) -> bool
+pub(crate) fn linked(link: Link, n: u8, event: &Event, m: u8, other: &Event) -> bool
     ensures { λ r. ⌜ r ≡ linked link n (now (event .entry)) m (now (other .entry)) ⌝ }
 {
     let place = other.same_place(event);

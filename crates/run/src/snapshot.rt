@@ -59,7 +59,7 @@ impl Snapshot {
     }
 
     /// Whether the event is settled though it is no write, or not the only settled one of its location.
-    pub fn misplaced(&self, n: u8, event: &Event) -> bool
+    pub(crate) fn misplaced(&self, n: u8, event: &Event) -> bool
         ensures { λ r. ⌜ r ≡ misplaced (table-run (now (self .entry) .events)) n (now (event .entry)) ⌝ }
     {
         event.settled & (!event.is_write() | self.some_linked(Link::OtherSettled, n, event))
@@ -95,7 +95,7 @@ impl Snapshot {
     }
 
     /// The lowest event that breaks a rule.
-    pub fn lowest_broken(&self, rule: Rule) -> Option<u8>
+    pub(crate) fn lowest_broken(&self, rule: Rule) -> Option<u8>
         ensures { λ r. ⌜ Lowest (faulty rule (table-run (now (self .entry) .events))) r ⌝ }
     {
         for n in 0..32u8 {

@@ -52,7 +52,7 @@ fn marked(mark: Mark, event: Option<Event>) -> bool
 }
 
 /// How many events have the mark.
-pub fn count(events: &Snapshot, mark: Mark) -> u8
+fn count(events: &Snapshot, mark: Mark) -> u8
     ensures { λ r. ⌜ Counts (At-mark mark (table-run (now (events .entry) .events))) r ⌝ }
 {
     let mut found = 0;
@@ -94,18 +94,21 @@ fn verdict_text(heap: Global, breach: Option<Breach>) -> Result<String, AllocErr
 }
 
 /// The two lines of a summary.
-pub fn summary_text(heap: Global, summary: Summary) -> Result<String, AllocError>
+fn summary_text(heap: Global, summary: Summary) -> Result<String, AllocError>
     ensures { λ r. ⌜ made r (λ t. string-bytes t ≡ summary-text summary) ⌝ }
 {
     let events = summary.events;
     let ties = summary.ties;
     let settled = summary.settled;
     let verdict = verdict_text(heap, summary.breach)?;
-    format!(heap, "EVENTS {events} TIES {ties} SETTLED {settled}\n{verdict}")
+    format!(
+        heap,
+        "EVENTS {events} TIES {ties} SETTLED {settled}\n{verdict}"
+    )
 }
 
 /// The line of a refusal.
-pub fn refusal_text(heap: Global, refusal: Refusal) -> Result<String, AllocError>
+fn refusal_text(heap: Global, refusal: Refusal) -> Result<String, AllocError>
     ensures { λ r. ⌜ made r (λ t. string-bytes t ≡ refusal-text refusal) ⌝ }
 {
     let number = refusal.number;

@@ -1,8 +1,8 @@
 use mathlib.Core.Path.{_≡_, sym, _∙_, ap}
 use native.Mathlib.Omega.{arith}
 use borrow.Author.Needs.{needs}
-use Rattle.run.specs.Benches.{bench-run}
-use Rattle.run.specs.Tests.{refusal, stepped}
+use Rattle.bench.specs.Benches.{bench-run}
+use Rattle.bench.specs.Tests.{refusal, stepped}
 use Rattle.record.specs.Reading.{piece-of}
 use Rattle.record.proofs.Turns.{replaying-none, replaying-step, replayed-refused, replayed-end, replayed-wrong, replayed-over, field-within, refused-for, not-refused}
 use Rattle.record.proofs.read.replay.Needs as need

@@ -1,4 +1,4 @@
-use Rattle.run.specs.Benches.{bench-run}
+use Rattle.bench.specs.Benches.{bench-run}
 use Rattle.record.proofs.Turns.{Replaying}
 use Rattle.record.proofs.read.replay.Given as given
 

@@ -1,0 +1,4 @@
+pub mod Stays
+pub mod Marks
+pub mod Refused
+pub mod Orderly
