@@ -10,3 +10,6 @@ pub mod Leads
 pub mod Halfway
 pub mod Stages
 pub mod RoundTrip
+pub mod Pastes
+pub mod Fields
+pub mod Written

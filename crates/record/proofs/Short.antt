@@ -14,13 +14,13 @@ use Rattle.record.specs.Format.{spell, spelled, end}
 use Rattle.record.specs.Writing.{call-of, also, calls-below, written, record-bytes}
 
 -- a call's field has at most 12 bytes
-spell-short : (a : Action) → length (spell a) ≤ 12
+pub spell-short : (a : Action) → length (spell a) ≤ 12
 spell-short (Enter x) = omega arith
 spell-short (Tie r w) = omega arith
 spell-short (Settle n) = omega arith
 
 -- and the fields of calls at most 12 for each
-spelled-short : (calls : List Action) → length (spelled calls) ≤ 12 * length calls
+pub spelled-short : (calls : List Action) → length (spelled calls) ≤ 12 * length calls
 spelled-short [] = omega arith
 spelled-short (a ∷ more) = omega (arith, length-append (spell a) (spelled more), spell-short a, spelled-short more)
 
@@ -30,7 +30,7 @@ also-few calls None = omega arith
 also-few calls (Some a) = omega (arith, length-append calls (a ∷ []))
 
 -- a stage has at most one call for each number
-calls-few : (stage : Stage) (run : Run) (n : ℕ) → length (calls-below stage run n) ≤ n
+pub calls-few : (stage : Stage) (run : Run) (n : ℕ) → length (calls-below stage run n) ≤ n
 unfolding calls-below
 calls-few stage run zero = omega arith
 calls-few stage run (suc n) = omega (arith, also-few (calls-below stage run n) (call-of stage n (run n)), calls-few stage run n)

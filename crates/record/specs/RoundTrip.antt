@@ -12,6 +12,10 @@ use Rattle.record.specs.Writing.{record-bytes}
 abbrev pub Confined : Run → Type 0
 Confined run = (n : ℕ) → 32 ≤ n → run n ≡ None
 
--- for every orderly run, the written record is short enough, and it is read back as that run
+-- the written record is short enough, and it is read back as the run
+abbrev pub Reads-back : Run → Type 0
+Reads-back run = (length (record-bytes run) ≤ 4096) × Holds (record-bytes run) run
+
+-- so for every orderly run
 abbrev pub Round-trip : Type 0
-Round-trip = (run : Run) → Orderly run → Confined run → (length (record-bytes run) ≤ 4096) × Holds (record-bytes run) run
+Round-trip = (run : Run) → Orderly run → Confined run → Reads-back run

@@ -3,7 +3,9 @@ pub mod fault;
 pub mod piece;
 pub mod read;
 pub mod stage;
+pub mod writer;
 
 pub use fault::RecordFault;
 pub use fault::WriteFault;
 pub use read::Record;
+pub use writer::write;
