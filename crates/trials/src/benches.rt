@@ -15,7 +15,7 @@ use run::window::WindowSource;
 use std::test::*;
 
 /// An entry at location 0 with step 0.
-pub fn entry(number: u8, kind: u8, thread: u8, value: u32) -> Entry {
+pub(super) fn entry(number: u8, kind: u8, thread: u8, value: u32) -> Entry {
     Entry {
         number,
         kind,
@@ -27,7 +27,7 @@ pub fn entry(number: u8, kind: u8, thread: u8, value: u32) -> Entry {
 }
 
 /// An initial write (0), a write of 1 by thread 1 (1), a read of 0 by thread 2 (2) and one of 1 by thread 3 (3).
-pub fn small() -> Result<Bench, BenchFault> {
+pub(super) fn small() -> Result<Bench, BenchFault> {
     let mut bench = Bench::new();
     bench.enter(entry(0, 4, 0, 0))?;
     bench.enter(entry(1, 1, 1, 1))?;
