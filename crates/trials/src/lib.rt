@@ -1,6 +1,8 @@
-//! Trials: worked examples of runs, benches, records and relations, each proved safe and then run.
+//! Trials: worked examples of runs, benches, records, relations and coherence orders, each proved safe and then run.
 #[cfg(test)]
 mod benches;
+#[cfg(test)]
+mod orders;
 #[cfg(test)]
 mod records;
 #[cfg(test)]

@@ -1,0 +1,11 @@
+pub mod Perms
+pub mod Mixed
+pub mod Caps
+pub mod Rows
+pub mod Masks
+pub mod Laying
+pub mod Groups
+pub mod Orders
+pub mod Pairing
+pub mod Told
+pub mod Moved

@@ -1,0 +1,20 @@
+-- The laws of coherence orders, so that a contract can name them. Assumes nothing.
+use mathlib.Core.Path.{_≡_}
+use Prim.Native.Nat.{ℕ}
+use Rattle.finite.specs.Counts.{Counts}
+use Rattle.run.specs.Runs.{Run}
+use Rattle.run.specs.Rules.{Sound}
+use Rattle.coherence.specs.Coherence.{Coherence}
+use Rattle.coherence.specs.Numbers.{Orders, Paired}
+
+-- every run has one product of factorials
+abbrev pub One-product : Type 0
+One-product = (run : Run) → (n : ℕ) × Orders run n × ((m : ℕ) → Orders run m → m ≡ n)
+
+-- in a sound run the numbers below the product and the coherence orders pair off
+abbrev pub Pairing : Type 0
+Pairing = (run : Run) (n : ℕ) → Sound run → Orders run n → Paired run n
+
+-- so the product is how many coherence orders there are
+abbrev pub Counted : Type 0
+Counted = (run : Run) (n : ℕ) → Sound run → Orders run n → Counts (Coherence run) n

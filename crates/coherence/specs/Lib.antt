@@ -1,0 +1,10 @@
+pub mod Perms
+pub mod Coherence
+pub mod Numbers
+pub mod Lines
+pub mod Digits
+pub mod Masks
+pub mod Laying
+pub mod Laws
+pub mod Renumbered
+pub mod Answers
