@@ -1,0 +1,11 @@
+pub mod Never
+pub mod Classes
+pub mod Table
+pub mod Items
+pub mod Begins
+pub mod Scans
+pub mod Parts
+pub mod Walks
+pub mod Unique
+pub mod Words
+pub mod Computed
