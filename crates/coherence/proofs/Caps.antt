@@ -1,16 +1,16 @@
 -- Factorials as far as the code has them. Assumes nothing.
 use mathlib.Core.Path.{_≡_, refl, sym, ap, _∙_, subst}
-use mathlib.Core.List.{List, [], _∷_}
+use mathlib.Core.List.{[], _∷_}
 use mathlib.Core.Logic.{⊎-elim}
-use Prim.Native.Nat.{ℕ, zero, suc, min, _+_, _*_, _/_, _%_, _<_, _≤_}
-use native.Mathlib.Nat.{not-suc-le-zero, eq-or-lt-of-le, le-of-suc-le-suc, min-eq-left, min-eq-right, div-eq-of-lt, mod-eq-of-lt, one-mul, mul-one}
+use Prim.Native.Nat.{ℕ, zero, suc, min, _*_, _/_, _%_, _<_, _≤_}
+use native.Mathlib.Nat.{eq-or-lt-of-le, le-of-suc-le-suc, min-eq-left, min-eq-right, div-eq-of-lt, mod-eq-of-lt}
 use native.Mathlib.Omega.{arith}
 use lib.ListN.{getD}
 use Rattle.std.proofs.shelf.Tests.{cases-lt}
 use Rattle.std.proofs.shelf.Bits.{mul-le}
 use Rattle.coherence.specs.Perms.{factorial}
 use Rattle.coherence.specs.Laying.{capped}
-use Rattle.coherence.proofs.Perms.{factorial-pos, factorial-next}
+use Rattle.coherence.proofs.Perms.{factorial-next}
 
 -- a higher number has no lower factorial
 pub factorial-le : (m n : ℕ) → m ≤ n → factorial m ≤ factorial n

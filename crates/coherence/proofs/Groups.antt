@@ -1,7 +1,7 @@
 -- A location's writes by their roles: in a sound run the line of a location has them all, the initial one first, a settled one last. Assumes nothing.
-use mathlib.Core.Path.{_≡_, refl, sym, ap, _∙_, subst}
+use mathlib.Core.Path.{_≡_, refl, sym, _∙_, subst}
 use mathlib.Core.List.{List, _++_, append-assoc}
-use mathlib.Core.Logic.{_⊎_, inl, inr, ⊎-elim}
+use mathlib.Core.Logic.{inl, inr, ⊎-elim}
 use mathlib.Core.Bool.{Bool, true, false, not, _&&_}
 use Prim.Native.Nat.{ℕ, _<_}
 use native.Mathlib.Omega.{arith}
@@ -10,10 +10,10 @@ use lib.ListN.{length}
 use Rattle.std.specs.declared.option.Option.the-variants.{Some}
 use Rattle.std.specs.Orderings.{Decides}
 use Rattle.std.proofs.shelf.Tests.{both-ways, cases-bool, not-true, not-from-false}
-use Rattle.std.proofs.shelf.Ways.{decides-eqb, decides-and, decides-like}
+use Rattle.std.proofs.shelf.Ways.{decides-eqb, decides-and}
 use Rattle.run.specs.declared.event.Event.{Event}
 use Rattle.run.specs.declared.rule.Rule.the-variants.{Ranges, Initials, Settlings}
-use Rattle.run.specs.Events.{Initial, Write}
+use Rattle.run.specs.Events.{Initial}
 use Rattle.run.specs.Runs.{Run, Stands}
 use Rattle.run.specs.Rules.{Sound}
 use Rattle.run.specs.Tests.{is-initial}
@@ -24,7 +24,7 @@ use Rattle.coherence.specs.declared.role.Role.{Role}
 use Rattle.coherence.specs.declared.role.Role.the-variants.{First, Free, Last}
 use Rattle.coherence.specs.Perms.{Lines, Rising, Sorted}
 use Rattle.coherence.specs.Coherence.{WriteOf, InitialOf, SettledOf, FreeOf, Order, Coherence}
-use Rattle.coherence.specs.Lines.{role-test, chosen, those, group, line, Precedes}
+use Rattle.coherence.specs.Lines.{role-test, chosen, group, line, Precedes}
 use Rattle.coherence.proofs.Perms.{rising-apart}
 use Rattle.coherence.proofs.Rows.{in-append, in-left, in-right, apart-append, sorted-append, sorted-all, precedes-across, those-in, those-has, those-rising}
 

@@ -1,8 +1,8 @@
 -- Laying a line into rows, number by number. Assumes nothing.
 use mathlib.Core.Path.{_≡_, refl, sym, ap, ap₂, _∙_, subst}
-use mathlib.Core.List.{List, [], _∷_, _++_}
+use mathlib.Core.List.{List, _∷_, _++_}
 use mathlib.Core.Bool.{Bool}
-use Prim.Native.Nat.{ℕ, zero, suc, _+_, _/_, _%_, _<_}
+use Prim.Native.Nat.{ℕ, suc, _+_, _/_, _%_, _<_}
 use native.Mathlib.Nat.{mod-lt, mod-le}
 use native.Mathlib.Numerals.{add-one}
 use native.Mathlib.Omega.{arith}
@@ -11,12 +11,12 @@ use lib.ListN.{length, getD, set, replicate, length-set}
 use Rattle.std.proofs.shelf.Bits.{div-below}
 use Rattle.run.specs.Runs.{Run}
 use Rattle.coherence.specs.declared.role.Role.the-variants.{First, Free, Last}
-use Rattle.coherence.specs.Perms.{factorial, removed, nth}
+use Rattle.coherence.specs.Perms.{factorial, nth}
 use Rattle.coherence.specs.Lines.{chosen, those, line}
 use Rattle.coherence.specs.Digits.{row-by}
 use Rattle.coherence.specs.Masks.{has, less, mask-of, left-of, laid}
 use Rattle.coherence.specs.Laying.{capped, writes-mask, mask-row, rows-at}
-use Rattle.coherence.proofs.Perms.{factorial-pos, factorial-next, removed-length, nth-first}
+use Rattle.coherence.proofs.Perms.{factorial-pos, removed-length, nth-first}
 use Rattle.coherence.proofs.Masks.{those-mask, those-removed, laid-append}
 use Rattle.coherence.proofs.Caps.{capped-div, capped-mod}
 

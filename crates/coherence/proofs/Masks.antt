@@ -1,10 +1,10 @@
 -- Masks: their bits, and rows with lines laid into them. Assumes nothing.
-use mathlib.Core.Path.{_≡_, refl, sym, ap, ap₂, _∙_, subst}
+use mathlib.Core.Path.{_≡_, refl, sym, ap, _∙_, subst, fun-ext}
 use mathlib.Core.List.{List, [], _∷_, _++_}
-use mathlib.Core.Logic.{_⊎_, _≢_, inl, inr, ⊎-elim}
-use mathlib.Core.Bool.{Bool, true, false, not, cond, _&&_, _||_}
+use mathlib.Core.Logic.{inl, inr, ⊎-elim}
+use mathlib.Core.Bool.{Bool, true, false, not, cond, _||_}
 use Prim.Native.Nat.{ℕ, zero, suc, _+_, _-_, _*_, _/_, _%_, _^_, _<_, _≤_}
-use native.Mathlib.Nat.{not-suc-le-zero, div-eq-of-lt, zero-div, one-mul, add-assoc, eq-or-lt-of-le, le-of-suc-le-suc}
+use native.Mathlib.Nat.{not-suc-le-zero, div-eq-of-lt, zero-div, one-mul}
 use native.Mathlib.Numerals.{add-one}
 use native.Mathlib.Omega.{arith}
 use lib.Dec.{ltb, eqb}
@@ -12,13 +12,14 @@ use lib.Bits.{bitOr, bitXor}
 use lib.ListN.{length, getD, set, length-set}
 use lib.Seq.{getD-set-same, getD-set-other}
 use Rattle.std.specs.Orderings.{Decides}
-use Rattle.std.proofs.shelf.Tests.{both-ways, cases-bool, cases-eq, cases-order, cases-lt, eq-eqb, ne-eqb, eqb-true, or-left, or-cases, false≢true}
-use Rattle.std.proofs.shelf.Ways.{decides-or, decides-like, same-from-decides, tells}
+use Rattle.std.proofs.shelf.Tests.{both-ways, cases-bool, cases-eq, cases-lt, eq-eqb, ne-eqb, or-left}
+use Rattle.std.proofs.shelf.Ways.{tells}
 use Rattle.std.proofs.shelf.Bits.{pow-add, pow-below, shl-shr, or-shr, or-mod, xor-shr, xor-mod}
 use Rattle.finite.specs.Lists.{In, Apart}
 use Rattle.coherence.specs.Perms.{removed}
-use Rattle.coherence.specs.Lines.{those, member, precedes, Precedes}
-use Rattle.coherence.specs.Masks.{has, more, less, mask-of, left-of, laid}
+use Rattle.coherence.specs.Lines.{those, member, precedes}
+use Rattle.coherence.specs.Coherence.{Order}
+use Rattle.coherence.specs.Masks.{has, more, less, mask-of, left-of, laid, Shown}
 use Rattle.coherence.proofs.Perms.{in-getD, removed-only, removed-all, removed-gone, removed-sorted, rising-apart}
 use Rattle.coherence.proofs.Rows.{member-decided, precedes-decided, precedes-left, sorted-one, those-in, those-has, those-rising, those-same}
 
@@ -216,3 +217,13 @@ laid-row (x ∷ xs) rows rest a b apart low same =
     let after = rest-after rest x xs (apart .0) same in
     laid-row xs (set rows x (less rest x)) (less rest x) a b (apart .1) (λ y h. rw (length-set rows x (less rest x)) (low y (inr h))) after
     ∙ laid-step x a b xs rows rest (member a xs) refl (apart .0) (low x (inl refl)) after
+
+-- rows show one order
+shown-at : (x y : Bool) → (x ≡ true → y ≡ true) → (y ≡ true → x ≡ true) → x ≡ y
+shown-at true y there back = sym (there refl)
+shown-at false true there back = back refl
+shown-at false false there back = refl
+
+pub shown-one : (rows : List ℕ) (co other : Order) → Shown rows co → Shown rows other → co ≡ other
+shown-one rows co other s t =
+    fun-ext (λ a. fun-ext (λ b. shown-at (co a b) (other a b) (λ h. t .bits a b .1 (s .bits a b .0 h)) (λ h. s .bits a b .1 (t .bits a b .0 h))))

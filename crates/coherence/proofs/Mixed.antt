@@ -1,15 +1,15 @@
 -- Numbers of mixed radix: each number below the product has its digits. Assumes nothing.
 use mathlib.Core.Path.{_≡_, refl, sym, ap, ap₂, _∙_, subst}
-use mathlib.Core.List.{List, [], _∷_, _++_}
-use mathlib.Core.Logic.{_⊎_, inl, inr, ⊎-elim}
+use mathlib.Core.List.{[], _∷_}
+use mathlib.Core.Logic.{⊎-elim}
 use Prim.Native.Nat.{ℕ, zero, suc, _+_, _*_, _/_, _%_, _<_, _≤_, zero-le}
-use native.Mathlib.Nat.{suc-mul, mul-pos, mul-le-mul-right, mod-lt, mod-le, div-le-self, not-suc-le-zero, one-mul, zero-mul, mul-assoc, add-mul, add-assoc, eq-or-lt-of-le, le-of-suc-le-suc}
+use native.Mathlib.Nat.{suc-mul, mul-le-mul-right, mod-lt, mod-le, div-le-self, not-suc-le-zero, zero-mul, mul-assoc, add-mul, eq-or-lt-of-le, le-of-suc-le-suc}
 use native.Mathlib.Numerals.{add-one}
 use native.Mathlib.Omega.{arith}
 use lib.ListN.{length, getD}
 use Rattle.std.proofs.shelf.Tests.{cases-order, cases-lt}
 use Rattle.std.proofs.shelf.Lists.{length-push, getD-push, getD-append-left, getD-past}
-use Rattle.std.proofs.shelf.Bits.{div-add-mod', div-below, div-mul-add, mod-mul-add}
+use Rattle.std.proofs.shelf.Bits.{div-add-mod', div-mul-add, mod-mul-add}
 use Rattle.coherence.specs.Numbers.{mixed, product}
 use Rattle.coherence.specs.Digits.{digits-of, excess}
 

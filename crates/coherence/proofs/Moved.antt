@@ -1,6 +1,6 @@
 -- Coherence orders go over along a renumbering of the events. Assumes nothing.
 use mathlib.Core.Path.{_≡_, refl, sym, ap, _∙_, subst, subst₂}
-use mathlib.Core.Logic.{_⊎_, inl, inr, ⊎-elim}
+use mathlib.Core.Logic.{inl, inr, ⊎-elim}
 use mathlib.Core.Bool.{true, _&&_}
 use Prim.Native.Nat.{ℕ, _<_}
 use native.Mathlib.Omega.{arith}
@@ -9,12 +9,11 @@ use Rattle.std.specs.declared.option.Option.{Option}
 use Rattle.std.specs.declared.option.Option.the-variants.{None, Some}
 use Rattle.std.proofs.shelf.Tests.{and-parts, and-from, ltb-true, lt-ltb}
 use Rattle.run.specs.declared.event.Event.{Event}
-use Rattle.run.specs.Events.{Initial, Write}
+use Rattle.run.specs.Events.{Write}
 use Rattle.run.specs.Runs.{Run, Stands}
-use Rattle.finite.specs.Counts.{Counts}
 use Rattle.finite.proofs.Counts.{count-carried}
 use Rattle.coherence.specs.Coherence.{WriteOf, InitialOf, SettledOf, Order, Coherence}
-use Rattle.coherence.specs.Renumbered.{Renumbering, moved-source, moved-event, Renumbered, moved-order, Carries, Carrying}
+use Rattle.coherence.specs.Renumbered.{Renumbering, moved-source, moved-event, Renumbered, moved-order, Carrying}
 use Rattle.coherence.proofs.Orders.{coherent-agree}
 
 -- the two events are alike in what coherence looks at

@@ -5,13 +5,12 @@ use mathlib.Core.Logic.{_⊎_, inl, inr, ⊎-elim}
 use mathlib.Core.Bool.{Bool, true, false}
 use Prim.Native.Nat.{ℕ, _<_}
 use Rattle.std.specs.Orderings.{Decides}
-use Rattle.std.proofs.shelf.Tests.{both-ways, cases-bool}
+use Rattle.std.proofs.shelf.Tests.{both-ways}
 use Rattle.std.proofs.shelf.Ways.{decides-below-or}
 use Rattle.run.specs.Runs.{Run}
 use Rattle.run.specs.Rules.{Sound}
 use Rattle.run.specs.Tests.{any-below}
 use Rattle.run.proofs.Below.{any-same}
-use Rattle.finite.specs.Lists.{In, Apart}
 use Rattle.coherence.specs.declared.role.Role.the-variants.{First, Free, Last}
 use Rattle.coherence.specs.Perms.{Lines, Sorted}
 use Rattle.coherence.specs.Coherence.{WriteOf, FreeOf, Order, Coherence}

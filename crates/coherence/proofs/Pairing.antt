@@ -1,23 +1,21 @@
 -- The numbers below the product of the factorials and the coherence orders of a sound run pair off. Assumes nothing.
 use mathlib.Core.Path.{_≡_, refl, sym, ap, _∙_, subst}
 use mathlib.Core.List.{List}
-use mathlib.Core.Logic.{inl, inr, ⊎-elim}
 use Prim.Native.Nat.{ℕ, _<_}
 use native.Mathlib.Omega.{arith}
-use lib.ListN.{length, getD}
+use lib.ListN.{length}
 use Rattle.run.specs.Runs.{Run}
 use Rattle.run.specs.Rules.{Sound}
-use Rattle.finite.specs.Counts.{Counts}
 use Rattle.finite.proofs.Counts.{count-unique, count-carried}
 use Rattle.coherence.specs.declared.role.Role.the-variants.{Free}
-use Rattle.coherence.specs.Perms.{factorial, Lines, Before, rank, nth}
+use Rattle.coherence.specs.Perms.{factorial, Lines, rank}
 use Rattle.coherence.specs.Coherence.{FreeOf, Order, Coherence}
-use Rattle.coherence.specs.Numbers.{mixed, product, Frees, radices, Orders, Row, Digit, Number, Earlier, Paired}
-use Rattle.coherence.specs.Lines.{group, line, order-of}
-use Rattle.coherence.specs.Digits.{digits-of, excess, ways, row-by, digit-at, line-at, order-at}
+use Rattle.coherence.specs.Numbers.{mixed, product, Frees, radices, Orders, Row, Digit, Number, Earlier}
+use Rattle.coherence.specs.Lines.{group, line}
+use Rattle.coherence.specs.Digits.{ways, row-by, digit-at, order-at}
 use Rattle.coherence.specs.Laws.{One-product, Pairing, Counted}
 use Rattle.coherence.proofs.Perms.{factorial-pos, rank-below, same-length, lines-same, same-lines, rank-one, rank-earlier, rank-counts, nth-right, count-numbers}
-use Rattle.coherence.proofs.Mixed.{Digits, Agree, Lower, product-same, mixed-same, mixed-below, mixed-one, mixed-lower, digits-below, digits-whole, excess-none}
+use Rattle.coherence.proofs.Mixed.{Digits, Agree, product-same, mixed-same, mixed-below, mixed-one, mixed-lower, digits-below, digits-whole, excess-none}
 use Rattle.coherence.proofs.Rows.{sort}
 use Rattle.coherence.proofs.Groups.{group-rising, free-lines, free-counts}
 use Rattle.coherence.proofs.Orders.{one-row, sorted-row, order-same, rows-coherent, rows-kept, made-by-rows}
@@ -44,9 +42,6 @@ rank-within run l row r =
     subst (λ n. rank row < factorial n) long (rank-below row)
 
 -- the number of an order by the ranks of its rows
-pub number-by : (run : Run) (rows : ℕ → List ℕ) → ℕ
-number-by run rows = mixed (ways run) (λ l. rank (rows l)) 16
-
 pub number-is : (run : Run) (co : Order) (n : ℕ) (k : Number run co n) → n ≡ mixed (ways run) (λ l. rank (k .row l)) 16
 number-is run co n k =
     k .value ∙ mixed-same (radices (k .free)) (ways run) (k .digit) (λ l. rank (k .row l)) 16 (ways-same run (k .free) (k .frees)) (λ l lt. count-unique (k .digits l lt) (digit-is run l (k .row l) (k .rows l lt .lines)))

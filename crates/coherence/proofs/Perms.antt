@@ -3,14 +3,14 @@ use mathlib.Core.Path.{_≡_, refl, sym, ap, _∙_, subst}
 use mathlib.Core.List.{List, [], _∷_}
 use mathlib.Core.Logic.{_⊎_, inl, inr, ⊎-elim}
 use mathlib.Core.Bool.{Bool, true, false, cond}
-use Prim.Native.Nat.{ℕ, zero, suc, _+_, _*_, _/_, _%_, _<_, _≤_, zero-le, suc-le-suc}
+use Prim.Native.Nat.{ℕ, zero, suc, _+_, _*_, _/_, _%_, _<_, _≤_, zero-le}
 use native.Mathlib.Nat.{suc-mul, mul-pos, mul-le-mul-right, mod-lt, zero-div, zero-mod, not-suc-le-zero, eq-or-lt-of-le, le-of-suc-le-suc}
 use native.Mathlib.Numerals.{add-one}
 use native.Mathlib.Omega.{arith}
 use lib.Dec.{ltb}
 use lib.ListN.{length, getD}
-use Rattle.std.proofs.shelf.Tests.{ltb-true, ltb-false, lt-ltb, le-ltb, cases-bool, cases-order, both-ways, cases-lt}
-use Rattle.std.proofs.shelf.Bits.{div-add-mod', div-below, div-mul-add, mod-mul-add}
+use Rattle.std.proofs.shelf.Tests.{ltb-true, ltb-false, lt-ltb, le-ltb, cases-order, both-ways}
+use Rattle.std.proofs.shelf.Bits.{div-add-mod', div-below}
 use Rattle.finite.specs.Lists.{In, Apart}
 use Rattle.finite.specs.Counts.{Counts}
 use Rattle.finite.proofs.Lists.{no-longer}

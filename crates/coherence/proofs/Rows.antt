@@ -2,17 +2,17 @@
 use mathlib.Core.Path.{_≡_, refl, sym, ap, ap₂, _∙_, subst}
 use mathlib.Core.List.{List, [], _∷_, _++_}
 use mathlib.Core.Logic.{_⊎_, inl, inr, ⊎-elim}
-use mathlib.Core.Bool.{Bool, true, false, cond, _&&_, _||_}
-use Prim.Native.Nat.{ℕ, zero, suc, _+_, _<_, _≤_, zero-le}
+use mathlib.Core.Bool.{Bool, true, false, cond, _&&_}
+use Prim.Native.Nat.{ℕ, zero, suc, _+_, _<_, _≤_}
 use native.Mathlib.Nat.{not-suc-le-zero, add-zero, eq-or-lt-of-le, le-of-suc-le-suc}
 use native.Mathlib.Numerals.{add-one}
 use native.Mathlib.Omega.{arith}
 use lib.Dec.{ltb, eqb}
 use lib.ListN.{length, getD, length-append}
 use Rattle.std.specs.Orderings.{Decides}
-use Rattle.std.proofs.shelf.Tests.{lt-ltb, both-ways, false≢true, cases-bool, cases-eq}
+use Rattle.std.proofs.shelf.Tests.{lt-ltb, both-ways, false≢true, cases-eq}
 use Rattle.std.proofs.shelf.Lists.{length-push, getD-push, getD-append-left, getD-past}
-use Rattle.std.proofs.shelf.Ways.{decides-eqb, decides-and, decides-or, decides-like}
+use Rattle.std.proofs.shelf.Ways.{decides-eqb, decides-and, decides-or}
 use Rattle.finite.specs.Lists.{In, Apart}
 use Rattle.finite.specs.Counts.{count-below}
 use Rattle.finite.proofs.Counts.{count-below-le}

@@ -1,36 +1,34 @@
 -- What the code tells is right: the rows show the order of the number, and the count is the product. Assumes nothing.
 use mathlib.Core.Path.{_≡_, refl, sym, ap, ap₂, _∙_, subst}
 use mathlib.Core.List.{List, [], _∷_, _++_, append-nil, append-assoc}
-use mathlib.Core.Logic.{_⊎_, inl, inr, ⊎-elim}
+use mathlib.Core.Logic.{inl, inr, ⊎-elim}
 use mathlib.Core.Bool.{Bool, true, false, cond, _||_}
 use Prim.Native.Nat.{ℕ, zero, suc, min, _+_, _*_, _/_, _%_, _<_, _≤_}
 use native.Mathlib.Nat.{mul-pos, div-le-self}
 use native.Mathlib.Numerals.{add-one}
 use native.Mathlib.Omega.{arith}
 use lib.ListN.{length, getD, set, drop, replicate, length-set}
-use Rattle.std.specs.Orderings.{Decides}
-use Rattle.std.proofs.shelf.Tests.{both-ways, cases-bool, cases-lt}
+use Rattle.std.proofs.shelf.Tests.{cases-bool, cases-lt}
 use Rattle.std.proofs.shelf.Lists.{getD-replicate, getD-past, length-replicate, drop-all, drop-set}
 use Rattle.std.proofs.shelf.Ways.{decides-or, decides-like, decides-at, decides-below-or, same-from-decides}
 use Rattle.run.specs.Runs.{Run}
-use Rattle.run.specs.Rules.{Sound}
 use Rattle.run.specs.Tests.{any-below}
 use Rattle.finite.specs.Lists.{In}
 use Rattle.coherence.specs.declared.role.Role.the-variants.{First, Free, Last}
-use Rattle.coherence.specs.Perms.{factorial, Lines, nth}
-use Rattle.coherence.specs.Coherence.{FreeOf, WriteOf, Order}
-use Rattle.coherence.specs.Numbers.{product, Orders}
-use Rattle.coherence.specs.Lines.{chosen, group, line, member, Precedes, precedes, order-of}
-use Rattle.coherence.specs.Digits.{digits-of, excess, ways, row-by, digit-at, order-at}
-use Rattle.coherence.specs.Masks.{has, mask-of, laid, Shown}
+use Rattle.coherence.specs.Perms.{Lines}
+use Rattle.coherence.specs.Coherence.{FreeOf}
+use Rattle.coherence.specs.Numbers.{product}
+use Rattle.coherence.specs.Lines.{chosen, group, line, member, precedes, order-of}
+use Rattle.coherence.specs.Digits.{digits-of, excess, ways, row-by, order-at}
+use Rattle.coherence.specs.Masks.{has, mask-of, Shown}
 use Rattle.coherence.specs.Laying.{capped, writes-mask, rows-at}
-use Rattle.coherence.specs.Answers.{Has, Told, Holds, Gives}
-use Rattle.coherence.proofs.Perms.{factorial-pos, Same, nth-right, same-lines}
+use Rattle.coherence.specs.Answers.{Has, Gives}
+use Rattle.coherence.proofs.Perms.{factorial-pos}
 use Rattle.coherence.proofs.Mixed.{digits-below, digits-le, excess-none, excess-below}
 use Rattle.coherence.proofs.Caps.{capped-div, capped-mod, capped-product}
 use Rattle.coherence.proofs.Rows.{in-append, in-left, in-right, precedes-left, precedes-decided, member-decided}
 use Rattle.coherence.proofs.Masks.{has-none, has-or, mask-decided, precedes-not, laid-length, laid-row}
-use Rattle.coherence.proofs.Groups.{group-rising, free-lines, line-writes, line-apart}
+use Rattle.coherence.proofs.Groups.{free-lines, line-writes, line-apart}
 use Rattle.coherence.proofs.Orders.{order-decided, one-location}
 use Rattle.coherence.proofs.Pairing.{orders-have, row-right, order-at-coherent, order-at-number, counted-law}
 

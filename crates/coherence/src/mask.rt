@@ -1,6 +1,6 @@
 //! Masks: sets of event numbers as 32 bits.
 ghost use mathlib.Core.Path.{_≡_};
-ghost use Prim.Native.Nat.{ℕ, _<_};
+ghost use Prim.Native.Nat.{_<_};
 ghost use lib.ListN.{length, getD};
 ghost use Rattle.coherence.specs.Masks.{has, more, less};
 ghost use Rattle.coherence.specs.Lines.{those};

@@ -1,8 +1,6 @@
 //! The number of coherence orders, and the order of a number.
 ghost use mathlib.Core.Path.{_≡_};
-ghost use mathlib.Core.List.{List};
-ghost use Prim.Native.Nat.{ℕ, min, _<_};
-ghost use lib.ListN.{length, getD};
+ghost use Prim.Native.Nat.{min, _<_};
 ghost use Rattle.run.specs.Tests.{table-run};
 ghost use Rattle.coherence.specs.Digits.{ways, digits-of, excess};
 ghost use Rattle.coherence.specs.Laying.{capped};
@@ -17,6 +15,8 @@ use run::Snapshot;
 
 /// The most orders that are counted.
 const LIMIT: u32 = 5040;
+/// What stands for any number above it.
+const OVER: u32 = 5041;
 
 /// How many ways there are to line up the free writes of a location.
 fn ways(events: &Snapshot, location: u8) -> u32
@@ -40,7 +40,7 @@ pub fn count_orders(events: &Snapshot) -> Option<u16>
 {
     let mut total = 1;
     for location in 0..16u8 {
-        total = lower(total * ways(events, location), LIMIT + 1);
+        total = lower(total * ways(events, location), OVER);
     }
     if total > LIMIT {
         None
@@ -55,7 +55,8 @@ fn split(events: &Snapshot, number: u16, digits: &mut [u32; 16]) -> u32
     ensures rest { λ r. ⌜ r ≡ excess (ways (table-run (now (events .entry) .events))) number 16 ⌝ }
 {
     let mut rest = u32::from(number);
-    for location in (0..16u8).rev() {
+    for step in 0..16u8 {
+        let location = 15 - step;
         let radix = ways(events, location);
         digits[location as usize] = rest % radix;
         rest /= radix;

@@ -1,6 +1,5 @@
 //! An order as rows of masks, laid line by line.
 ghost use mathlib.Core.Path.{_≡_};
-ghost use mathlib.Core.List.{List, _++_};
 ghost use Prim.Native.Nat.{ℕ, _<_};
 ghost use lib.ListN.{length, getD};
 ghost use Rattle.run.specs.Tests.{table-run};

@@ -1,4 +1,3 @@
-use Rattle.coherence.proofs.Told.{told-within}
 use Rattle.coherence.proofs.Pairing.{product-law, pairing-law, counted-law}
 use Rattle.coherence.proofs.laws_of_orders.Needs as need
 

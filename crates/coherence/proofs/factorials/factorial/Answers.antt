@@ -1,6 +1,4 @@
-use Prim.Native.Nat.{_<_}
 use native.Mathlib.Omega.{arith}
-use Rattle.coherence.specs.Perms.{factorial}
 use Rattle.coherence.proofs.Perms.{factorial-pos}
 use Rattle.coherence.proofs.Caps.{table-right, past-table}
 use Rattle.coherence.proofs.factorials.factorial.Needs as need

@@ -1,5 +1,5 @@
-use mathlib.Core.Path.{_≡_, refl, ap, _∙_, subst}
-use Prim.Native.Nat.{min, _≤_}
+use mathlib.Core.Path.{refl, ap, _∙_}
+use Prim.Native.Nat.{min}
 use native.Mathlib.Omega.{arith}
 use borrow.Author.Needs.{needs}
 use Rattle.std.proofs.shelf.Bits.{mul-le}
@@ -24,9 +24,9 @@ loop-location-again c =
 pub returns-then-total-gt-LIMIT : need.returns-then-total-gt-LIMIT
 returns-then-total-gt-LIMIT c =
     told-over (table-run (c .args .events .now .events)) (c .loop-location .total)
-    (c .loop-location .inv ∙ ap (λ m. min (product (ways (table-run (c .args .events .now .events))) m) 5041) (omega arith)) (c .if-total-gt-LIMIT .taken)
+    (c .loop-location .inv ∙ ap (λ m. min (product (ways (table-run (c .args .events .now .events))) m) 5041) (omega arith)) (omega (arith, c .if-total-gt-LIMIT .taken))
 
 pub returns-else-total-gt-LIMIT : need.returns-else-total-gt-LIMIT
 returns-else-total-gt-LIMIT c =
     told-within (table-run (c .args .events .now .events)) (c .loop-location .total) (c .loop-location .total)
-    (c .loop-location .inv ∙ ap (λ m. min (product (ways (table-run (c .args .events .now .events))) m) 5041) (omega arith)) (c .if-total-gt-LIMIT .left) refl
+    (c .loop-location .inv ∙ ap (λ m. min (product (ways (table-run (c .args .events .now .events))) m) 5041) (omega arith)) (omega (arith, c .if-total-gt-LIMIT .left)) refl

@@ -1,9 +1,8 @@
-use mathlib.Core.Path.{_≡_, refl, sym, subst}
+use mathlib.Core.Path.{refl, subst}
 use Prim.Native.Nat.{_<_}
 use native.Mathlib.Omega.{arith}
 use borrow.Author.Needs.{needs}
 use Rattle.run.specs.Tests.{table-run}
-use Rattle.coherence.specs.Digits.{ways, excess}
 use Rattle.coherence.proofs.Told.{gives-order, gives-none, digits-fit, digits-small}
 use Rattle.coherence.proofs.numbers.nth_order.Needs as need
 
