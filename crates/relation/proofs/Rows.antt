@@ -54,10 +54,6 @@ filled-done n rows R l bound f =
       same = λ a b. (λ h. f .same a (omega (arith, h .within)) b .0 (h .there), λ r. record { within = bound a b r; there = f .same a (omega (arith, bound a b r)) b .1 r });
     }
 
--- a pair of rows is an event of a row
-pub related-there : (rows : List ℕ) (a b : ℕ) → a < 32 → Related rows a b ↔ Member (getD rows a 0) b
-related-there rows a b l = (λ r. r .there, λ m. record { within = l; there = m })
-
 module _ (xs ys : List ℕ) (a : ℕ) (l : a < 32) {v : ℕ} where
   -- a row of a union
   pub union-row : Marks v (Either (Member (getD xs a 0)) (Member (getD ys a 0))) → Marks v (Union (Related xs) (Related ys) a)

@@ -1,4 +1,4 @@
-//! Trials: worked examples of runs, benches, records, relations, coherence orders and texts, each proved safe and then run.
+//! Trials: worked examples of runs, benches, records, relations, coherence orders, texts and sentences, each proved safe and then run.
 #[cfg(test)]
 mod benches;
 #[cfg(test)]
@@ -9,5 +9,7 @@ mod records;
 mod relations;
 #[cfg(test)]
 mod rules;
+#[cfg(test)]
+mod sentences;
 #[cfg(test)]
 mod texts;

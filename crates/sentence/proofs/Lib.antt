@@ -1,0 +1,15 @@
+pub mod Inserts
+pub mod Expressions
+pub mod Complete
+pub mod Said
+pub mod Sound
+pub mod Alive
+pub mod Stars
+pub mod Refusals
+pub mod Looking
+pub mod Looked
+pub mod Climbs
+pub mod Heard
+pub mod Phrases
+pub mod Readings
+pub mod Seatings

@@ -1,0 +1,12 @@
+pub mod Trees
+pub mod Texts
+pub mod Stars
+pub mod Roles
+pub mod Looks
+pub mod Machine
+pub mod Exprs
+pub mod Seats
+pub mod Parsing
+pub mod Statements
+pub mod Reading
+pub mod Laws
