@@ -22,7 +22,7 @@ use Rattle.finite.specs.Lists.{In, Apart}
 use Rattle.finite.specs.Counts.{Counts}
 use Rattle.coherence.specs.declared.role.Role.{Role}
 use Rattle.coherence.specs.declared.role.Role.the-variants.{First, Free, Last}
-use Rattle.coherence.specs.Perms.{Lines, Rising, Sorted}
+use Rattle.coherence.specs.Perms.{LinesUp, Rising, Sorted}
 use Rattle.coherence.specs.Coherence.{WriteOf, InitialOf, SettledOf, FreeOf, Order, Coherence}
 use Rattle.coherence.specs.Lines.{role-test, chosen, group, line, Precedes}
 use Rattle.coherence.proofs.Perms.{rising-apart}
@@ -85,7 +85,7 @@ free-has run l n f =
     let kind : f .event .kind ≡ 1 = ⊎-elim (λ e. e) (λ i. absurd (f .not-initial i)) (f .writes) in
     group-has Free run l n (f .event, f .stands, (kind, (f .unsettled, f .place)))
 
-pub free-lines : (run : Run) (l : ℕ) → Lines (FreeOf run l) (group Free run l)
+pub free-lines : (run : Run) (l : ℕ) → LinesUp (FreeOf run l) (group Free run l)
 free-lines run l = record { apart = group-apart Free run l; only = free-in run l; all = free-has run l }
 
 pub free-counts : (run : Run) (l : ℕ) → Counts (FreeOf run l) (length (group Free run l))
@@ -139,7 +139,7 @@ pub record Line (run : Run) (l : ℕ) (xs : List ℕ) : Type 0 where
   pub last : (a b : ℕ) → WriteOf run l a → SettledOf run l b → (a ≡ b → ⊥) → Precedes xs a b
 
 -- a write is initial, free, or settled
-write-roles : (run : Run) (l : ℕ) (row : List ℕ) (x : ℕ) → Lines (FreeOf run l) row → WriteOf run l x → In x (line run l row)
+write-roles : (run : Run) (l : ℕ) (row : List ℕ) (x : ℕ) → LinesUp (FreeOf run l) row → WriteOf run l x → In x (line run l row)
 write-roles run l row x r w =
     ⊎-elim
     (λ kind. ⊎-elim
@@ -149,14 +149,14 @@ write-roles run l row x r w =
     (λ i. in-left x (group First run l) _ (group-has First run l x (w .event, w .stands, (i, w .place))))
     (w .writes)
 
-pub line-writes : (run : Run) (l : ℕ) (row : List ℕ) (x : ℕ) → Lines (FreeOf run l) row → In x (line run l row) → WriteOf run l x
+pub line-writes : (run : Run) (l : ℕ) (row : List ℕ) (x : ℕ) → LinesUp (FreeOf run l) row → In x (line run l row) → WriteOf run l x
 line-writes run l row x r h =
     ⊎-elim
     (λ k. initial-write run l x (first-in run l x k))
     (λ k. ⊎-elim (λ i. free-write run l x (r .only x i)) (λ i. settled-write run l x (last-in run l x i)) (in-append x row (group Last run l) k))
     (in-append x (group First run l) (row ++ group Last run l) h)
 
-pub line-apart : (run : Run) (l : ℕ) (row : List ℕ) → Lines (FreeOf run l) row → Apart (line run l row)
+pub line-apart : (run : Run) (l : ℕ) (row : List ℕ) → LinesUp (FreeOf run l) row → Apart (line run l row)
 line-apart run l row r =
     apart-append (group First run l) (row ++ group Last run l) (group-apart First run l)
     (apart-append row (group Last run l) (r .apart) (group-apart Last run l) (λ x h k. free-not-last run l x (r .only x h) k))
@@ -179,12 +179,12 @@ module _ (run : Run) (sound : Sound run) where
   pub located : (l n : ℕ) → WriteOf run l n → l < 16
   located l n w = let le = sound Ranges n (w .event) (w .stands) .located (inr (w .writes)) in omega (arith, le, w .place)
 
-  line-first : (l : ℕ) (row : List ℕ) (a b : ℕ) → Lines (FreeOf run l) row → InitialOf run l a → WriteOf run l b → (a ≡ b → ⊥) → Precedes (line run l row) a b
+  line-first : (l : ℕ) (row : List ℕ) (a b : ℕ) → LinesUp (FreeOf run l) row → InitialOf run l a → WriteOf run l b → (a ≡ b → ⊥) → Precedes (line run l row) a b
   line-first l row a b r i w ne =
       ⊎-elim (λ k. absurd (ne (one-initial l a b i (first-in run l b k)))) (λ k. precedes-across (group First run l) (row ++ group Last run l) a b (first-has run l a i) k)
       (in-append b (group First run l) (row ++ group Last run l) (write-roles run l row b r w))
 
-  line-last : (l : ℕ) (row : List ℕ) (a b : ℕ) → Lines (FreeOf run l) row → WriteOf run l a → SettledOf run l b → (a ≡ b → ⊥) → Precedes (line run l row) a b
+  line-last : (l : ℕ) (row : List ℕ) (a b : ℕ) → LinesUp (FreeOf run l) row → WriteOf run l a → SettledOf run l b → (a ≡ b → ⊥) → Precedes (line run l row) a b
   line-last l row a b r w s ne =
       ⊎-elim
       (λ kind.
@@ -197,7 +197,7 @@ module _ (run : Run) (sound : Sound run) where
       (s .writes)
 
   -- with its free writes in any row, the line of a location is one
-  pub line-right : (l : ℕ) (row : List ℕ) → Lines (FreeOf run l) row → Line run l (line run l row)
+  pub line-right : (l : ℕ) (row : List ℕ) → LinesUp (FreeOf run l) row → Line run l (line run l row)
   line-right l row r = record {
     apart = line-apart run l row r;
     only = λ x. line-writes run l row x r;
@@ -207,7 +207,7 @@ module _ (run : Run) (sound : Sound run) where
   }
 
   -- a coherence order has the line as it stands, if it has the row so
-  pub line-sorted : (co : Order) (l : ℕ) (row : List ℕ) → Coherence run co → Lines (FreeOf run l) row → Sorted co row → Sorted co (line run l row)
+  pub line-sorted : (co : Order) (l : ℕ) (row : List ℕ) → Coherence run co → LinesUp (FreeOf run l) row → Sorted co row → Sorted co (line run l row)
   line-sorted co l row c r s =
       sorted-append co (group First run l) (row ++ group Last run l)
       (sorted-all co (group First run l) (group-apart First run l) (λ x y h k ne. c .first l x y (first-in run l x h) (initial-write run l y (first-in run l y k)) ne))

@@ -9,3 +9,4 @@ pub mod Orders
 pub mod Pairing
 pub mod Told
 pub mod Moved
+pub mod Alike

@@ -12,7 +12,7 @@ use Rattle.run.specs.Rules.{Sound}
 use Rattle.run.specs.Tests.{any-below}
 use Rattle.run.proofs.Below.{any-same}
 use Rattle.coherence.specs.declared.role.Role.the-variants.{First, Free, Last}
-use Rattle.coherence.specs.Perms.{Lines, Sorted}
+use Rattle.coherence.specs.Perms.{LinesUp, Sorted}
 use Rattle.coherence.specs.Coherence.{WriteOf, FreeOf, Order, Coherence}
 use Rattle.coherence.specs.Numbers.{Row}
 use Rattle.coherence.specs.Lines.{group, line, Precedes, precedes, order-of}
@@ -107,7 +107,7 @@ module _ (run : Run) (sound : Sound run) where
       last = λ l a b w s ne. let lt = located run sound l a w in joined-from l a b lt (right l lt .last a b w s ne);
     }
 
-  module _ (rows : ℕ → List ℕ) (free : (l : ℕ) → l < 16 → Lines (FreeOf run l) (rows l)) where
+  module _ (rows : ℕ → List ℕ) (free : (l : ℕ) → l < 16 → LinesUp (FreeOf run l) (rows l)) where
     -- any rows of the free writes make a coherence order
     pub rows-coherent : Coherence run (order-of (λ l. line run l (rows l)))
     rows-coherent = lines-coherent (λ l. line run l (rows l)) (λ l lt. line-right run sound l (rows l) (free l lt))

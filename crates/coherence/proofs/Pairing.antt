@@ -8,7 +8,7 @@ use Rattle.run.specs.Runs.{Run}
 use Rattle.run.specs.Rules.{Sound}
 use Rattle.finite.proofs.Counts.{count-unique, count-carried}
 use Rattle.coherence.specs.declared.role.Role.the-variants.{Free}
-use Rattle.coherence.specs.Perms.{factorial, Lines, rank}
+use Rattle.coherence.specs.Perms.{factorial, LinesUp, rank}
 use Rattle.coherence.specs.Coherence.{FreeOf, Order, Coherence}
 use Rattle.coherence.specs.Numbers.{mixed, product, Frees, radices, Orders, Row, Digit, Number, Earlier}
 use Rattle.coherence.specs.Lines.{group, line}
@@ -32,11 +32,11 @@ pub orders-have : (run : Run) → Orders run (product (ways run) 16)
 orders-have run = record { free = λ l. length (group Free run l); frees = λ l lt. free-counts run l; value = refl }
 
 -- the digit of a row is its rank
-pub digit-is : (run : Run) (l : ℕ) (row : List ℕ) → Lines (FreeOf run l) row → Digit run l row (rank row)
+pub digit-is : (run : Run) (l : ℕ) (row : List ℕ) → LinesUp (FreeOf run l) row → Digit run l row (rank row)
 digit-is run l row r = rank-counts (group Free run l) row (free-lines run l) (group-rising Free run l) r
 
 -- it is below the radix
-pub rank-within : (run : Run) (l : ℕ) (row : List ℕ) → Lines (FreeOf run l) row → rank row < ways run l
+pub rank-within : (run : Run) (l : ℕ) (row : List ℕ) → LinesUp (FreeOf run l) row → rank row < ways run l
 rank-within run l row r =
     let long = same-length row (group Free run l) (lines-same row (group Free run l) r (free-lines run l)) in
     subst (λ n. rank row < factorial n) long (rank-below row)
@@ -50,11 +50,11 @@ ranks-within : (run : Run) (co : Order) (n : ℕ) (k : Number run co n) → Digi
 ranks-within run co n k l lt = rank-within run l (k .row l) (k .rows l lt .lines)
 
 -- rows with the same digit are the same
-rows-one : (run : Run) (l : ℕ) (row other : List ℕ) → Lines (FreeOf run l) row → Lines (FreeOf run l) other → rank row ≡ rank other → row ≡ other
+rows-one : (run : Run) (l : ℕ) (row other : List ℕ) → LinesUp (FreeOf run l) row → LinesUp (FreeOf run l) other → rank row ≡ rank other → row ≡ other
 rows-one run l row other r s e = rank-one row other (lines-same row other r s) e
 
 -- the row of each digit
-pub row-right : (run : Run) (n l : ℕ) → l < 16 → Lines (FreeOf run l) (row-by run l (digit-at run n l)) × (rank (row-by run l (digit-at run n l)) ≡ digit-at run n l)
+pub row-right : (run : Run) (n l : ℕ) → l < 16 → LinesUp (FreeOf run l) (row-by run l (digit-at run n l)) × (rank (row-by run l (digit-at run n l)) ≡ digit-at run n l)
 row-right run n l lt =
     let below = digits-below (ways run) n 16 (λ m. factorial-pos (length (group Free run m))) l lt in
     let t = nth-right (length (group Free run l)) (group Free run l) (digit-at run n l) refl (group-rising Free run l) below in

@@ -15,7 +15,7 @@ use Rattle.finite.specs.Lists.{In, Apart}
 use Rattle.finite.specs.Counts.{Counts}
 use Rattle.finite.proofs.Lists.{no-longer}
 use Rattle.finite.proofs.Counts.{count-same, count-one-more, count-nothing, count-unique, count-carried}
-use Rattle.coherence.specs.Perms.{factorial, Lines, Before, Sorted, Rising, passing, lower, rank, removed, nth}
+use Rattle.coherence.specs.Perms.{factorial, LinesUp, Before, Sorted, Rising, passing, lower, rank, removed, nth}
 
 -- so many numbers are below a number
 pub count-numbers : (n : ℕ) → Counts (λ k. k < n) n
@@ -282,15 +282,15 @@ nth-first (x ∷ xs) = rw (zero-div (factorial (length xs)), zero-mod (factorial
 
 module _ {P : ℕ → Type 0} where
   -- two rows of the things with a property are rows of the same things
-  pub lines-same : (xs ys : List ℕ) → Lines P xs → Lines P ys → Same xs ys
+  pub lines-same : (xs ys : List ℕ) → LinesUp P xs → LinesUp P ys → Same xs ys
   lines-same xs ys h k = record { left = h .apart; right = k .apart; there = λ x i. k .all x (h .only x i); back = λ x i. h .all x (k .only x i) }
 
   -- a row of the same things is such a row
-  pub same-lines : (xs ys : List ℕ) → Same xs ys → Lines P ys → Lines P xs
+  pub same-lines : (xs ys : List ℕ) → Same xs ys → LinesUp P ys → LinesUp P xs
   same-lines xs ys s k = record { apart = s .left; only = λ x i. k .only x (s .there x i); all = λ x p. s .back x (k .all x p) }
 
   -- the rank is how many permutations come before
-  pub rank-counts : (base row : List ℕ) → Lines P base → Rising base → Lines P row → Counts (λ other. Lines P other × Before other row) (rank row)
+  pub rank-counts : (base row : List ℕ) → LinesUp P base → Rising base → LinesUp P row → Counts (λ other. LinesUp P other × Before other row) (rank row)
   rank-counts base row h r k =
       let long = same-length row base (lines-same row base k h) in
       let below : rank row < factorial (length base) = rw (← long) (rank-below row) in

@@ -15,7 +15,7 @@ use Rattle.run.specs.Runs.{Run}
 use Rattle.run.specs.Tests.{any-below}
 use Rattle.finite.specs.Lists.{In}
 use Rattle.coherence.specs.declared.role.Role.the-variants.{First, Free, Last}
-use Rattle.coherence.specs.Perms.{Lines}
+use Rattle.coherence.specs.Perms.{LinesUp}
 use Rattle.coherence.specs.Coherence.{FreeOf}
 use Rattle.coherence.specs.Numbers.{product}
 use Rattle.coherence.specs.Lines.{chosen, group, line, member, precedes, order-of}
@@ -33,10 +33,10 @@ use Rattle.coherence.proofs.Orders.{order-decided, one-location}
 use Rattle.coherence.proofs.Pairing.{orders-have, row-right, order-at-coherent, order-at-number, counted-law}
 
 -- the mask of a location's writes has what its line has
-free-same : (run : Run) (l : ℕ) (row : List ℕ) (k : ℕ) → Lines (FreeOf run l) row → (In k row → In k (group Free run l)) × (In k (group Free run l) → In k row)
+free-same : (run : Run) (l : ℕ) (row : List ℕ) (k : ℕ) → LinesUp (FreeOf run l) row → (In k row → In k (group Free run l)) × (In k (group Free run l) → In k row)
 free-same run l row k r = (λ h. free-lines run l .all k (r .only k h), λ h. r .all k (free-lines run l .only k h))
 
-pub writes-line : (run : Run) (l : ℕ) (row : List ℕ) (k : ℕ) → Lines (FreeOf run l) row → has (writes-mask run l) k ≡ member k (line run l row)
+pub writes-line : (run : Run) (l : ℕ) (row : List ℕ) (k : ℕ) → LinesUp (FreeOf run l) row → has (writes-mask run l) k ≡ member k (line run l row)
 writes-line run l row k r =
     let f : ℕ = mask-of (chosen First run l) 32 in
     let e : ℕ = mask-of (chosen Free run l) 32 in
@@ -73,7 +73,7 @@ any-found : (p : ℕ → Bool) (m : ℕ) → any-below p m ≡ true → (l : ℕ
 unfolding any-below
 any-found p m h = decides-below-or p (λ l. p l ≡ true) (any-below p) (λ l. (λ e. e, λ e. e)) refl (λ _. refl) m .0 h
 
-module _ (run : Run) (digits : List ℕ) (right : (l : ℕ) → l < 16 → Lines (FreeOf run l) (row-by run l (getD digits l 0))) where
+module _ (run : Run) (digits : List ℕ) (right : (l : ℕ) → l < 16 → LinesUp (FreeOf run l) (row-by run l (getD digits l 0))) where
   -- the line of a location by its digit
   abbrev laid-line : ℕ → List ℕ
   laid-line l = line run l (row-by run l (getD digits l 0))

@@ -4,7 +4,7 @@ use mathlib.Core.List.{List}
 use Prim.Native.Nat.{ℕ, zero, suc, _+_, _*_, _<_}
 use Rattle.finite.specs.Counts.{Counts}
 use Rattle.run.specs.Runs.{Run}
-use Rattle.coherence.specs.Perms.{factorial, Lines, Before, Sorted}
+use Rattle.coherence.specs.Perms.{factorial, LinesUp, Before, Sorted}
 use Rattle.coherence.specs.Coherence.{FreeOf, Order, Coherence}
 
 -- the number that digits make, the first of them counting most, each with a radix of its own
@@ -33,28 +33,36 @@ pub record Orders (run : Run) (n : ℕ) : Type 0 where
 
 -- the row is the location's free writes as the order has them
 pub record Row (run : Run) (co : Order) (l : ℕ) (row : List ℕ) : Type 0 where
-  pub lines : Lines (FreeOf run l) row
+  -- it has the free writes of the location, each once
+  pub lines : LinesUp (FreeOf run l) row
+  -- each is before those that stand after it
   pub sorted : Sorted co row
 
 -- so many ways to line up the location's free writes come before the row
 abbrev pub Digit : Run → ℕ → List ℕ → ℕ → Type 0
-Digit run l row d = Counts (λ other. Lines (FreeOf run l) other × Before other row) d
+Digit run l row d = Counts (λ other. LinesUp (FreeOf run l) other × Before other row) d
 
 -- n is the number of the order: the mixed-radix number of its rows' digits
 pub record Number (run : Run) (co : Order) (n : ℕ) : Type 0 where
+  -- how many free writes each location has
   pub free : ℕ → ℕ
   pub frees : Frees run free
+  -- how the order lines them up
   pub row : ℕ → List ℕ
   pub rows : (l : ℕ) → l < 16 → Row run co l (row l)
+  -- how many ways to line them up come before that
   pub digit : ℕ → ℕ
   pub digits : (l : ℕ) → l < 16 → Digit run l (row l) (digit l)
+  -- the lowest location counts most, and the radix of f free writes is f factorial
   pub value : n ≡ mixed (radices free) digit 16
 
 -- one order comes before another: at the first location, from the lowest, at which their rows differ, its row comes before
 pub record Earlier (run : Run) (co other : Order) : Type 0 where
   pub location : ℕ
   pub within : location < 16
+  -- at every lower location both have the same row
   pub alike : (l : ℕ) → l < location → (row : List ℕ) → Row run co l row → Row run other l row
+  -- at this location the row of the one comes before the row of the other
   pub here : List ℕ
   pub there : List ℕ
   pub row-here : Row run co location here

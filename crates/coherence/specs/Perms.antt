@@ -14,7 +14,7 @@ factorial zero = 1
 factorial (suc n) = suc n * factorial n
 
 -- the row has just the things with the property, each once
-pub record Lines (P : ℕ → Type 0) (row : List ℕ) : Type 0 where
+pub record LinesUp (P : ℕ → Type 0) (row : List ℕ) : Type 0 where
   pub apart : Apart row
   pub only : (x : ℕ) → In x row → P x
   pub all : (x : ℕ) → P x → In x row

@@ -5,7 +5,7 @@ pub mod numbers;
 pub mod order;
 pub mod role;
 
-ghost use Rattle.coherence.specs.Laws.{One-product, Pairing, Counted};
+ghost use Rattle.coherence.specs.Laws.{One-product, Pairing, Counted, Only-below-32};
 ghost use Rattle.coherence.specs.Renumbered.{Carrying};
 pub use numbers::count_orders;
 pub use numbers::nth_order;
@@ -16,6 +16,7 @@ pub fn laws_of_orders()
     ensures product { λ _. ⌜ One-product ⌝ }
     ensures pairing { λ _. ⌜ Pairing ⌝ }
     ensures counted { λ _. ⌜ Counted ⌝ }
+    ensures alike { λ _. ⌜ Only-below-32 ⌝ }
 {}
 
 /// Along a renumbering of the events, coherence orders go over to coherence orders one to one.

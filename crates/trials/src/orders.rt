@@ -9,6 +9,10 @@ use std::test::*;
 /// A write: its kind (4 is an initial one), its location, and whether it is settled.
 type Write = (u8, u8, bool);
 
+const INITIAL: Write = (4, 0, false);
+
+const FREE: Write = (1, 0, false);
+
 /// The run of these writes, numbered as they stand.
 fn run_of(writes: &[Write]) -> Snapshot {
     let mut events = [None; 32];
@@ -29,84 +33,53 @@ fn run_of(writes: &[Write]) -> Snapshot {
     Snapshot { events }
 }
 
-/// The first eight rows of the order of a number.
-fn rows_of(events: &Snapshot, number: u16) -> [u32; 8] {
-    let mut order = Order { rows: [0; 32] };
-    let mut first = [0; 8];
-    if nth_order(events, number, &mut order) {
-        for n in 0..8usize {
-            first[n] = order.rows[n];
-        }
-    }
-    first
-}
-
-/// The set of these numbers.
-fn set(numbers: &[u8]) -> u32 {
-    let mut found = 0;
-    for n in numbers {
-        found |= 1 << (*n & 31);
-    }
-    found
-}
-
-/// The run 2+2w.
-fn two_plus_two() -> Snapshot {
+/// The run 2+2w, with the last writes of both locations settled or not.
+fn two_plus_two(settled: bool) -> Snapshot {
     run_of(
         &[
-            (4, 0, false),
+            INITIAL,
             (4, 1, false),
-            (1, 0, false),
+            (1, 0, settled),
             (1, 1, false),
-            (1, 1, false),
-            (1, 0, false),
+            (1, 1, settled),
+            FREE,
         ],
     )
 }
 
-/// An initial write and free writes after it, all at one location.
-fn free_writes(number: u8) -> Snapshot {
-    let mut events = run_of(&[(4, 0, false)]);
-    for n in 1..32u8 {
-        if n <= number {
-            events.events[n as usize] = run_of(&[(1, 0, false)]).events[0];
-        }
+/// Whether the order of a number has these events, and only these, one after the other.
+fn lines_up(events: &Snapshot, number: u16, line: &[u8]) -> bool {
+    let mut order = Order { rows: [0; 32] };
+    let mut same = nth_order(events, number, &mut order);
+    let mut later = 0;
+    for event in line.iter().rev() {
+        same = same & (order.rows[(*event & 31) as usize] == later);
+        later |= 1 << (*event & 31);
     }
-    events
+    same
 }
 
 #[test]
 fn two_plus_two_has_four_orders() -> Result<(), Fail> {
-    let events = two_plus_two();
+    let events = two_plus_two(false);
     check_eq(count_orders(&events), Some(4))?;
-    check(rows_of(&events, 0) == [set(&[2, 5]), set(&[3, 4]), set(&[5]), set(&[4]), 0, 0, 0, 0])?;
-    check(rows_of(&events, 1) == [set(&[2, 5]), set(&[3, 4]), set(&[5]), 0, set(&[3]), 0, 0, 0])?;
-    check(rows_of(&events, 2) == [set(&[2, 5]), set(&[3, 4]), 0, set(&[4]), 0, set(&[2]), 0, 0])?;
-    check(rows_of(&events, 3) == [set(&[2, 5]), set(&[3, 4]), 0, 0, set(&[3]), set(&[2]), 0, 0])
+    check(lines_up(&events, 0, &[0, 2, 5]) & lines_up(&events, 0, &[1, 3, 4]))?;
+    check(lines_up(&events, 1, &[0, 2, 5]) & lines_up(&events, 1, &[1, 4, 3]))?;
+    check(lines_up(&events, 2, &[0, 5, 2]) & lines_up(&events, 2, &[1, 3, 4]))?;
+    check(lines_up(&events, 3, &[0, 5, 2]) & lines_up(&events, 3, &[1, 4, 3]))
 }
 
 #[test]
 fn two_plus_two_settled_has_one_order() -> Result<(), Fail> {
-    let events = run_of(
-        &[
-            (4, 0, false),
-            (4, 1, false),
-            (1, 0, true),
-            (1, 1, false),
-            (1, 1, true),
-            (1, 0, false),
-        ],
-    );
+    let events = two_plus_two(true);
     check_eq(count_orders(&events), Some(1))?;
-    check(rows_of(&events, 0) == [set(&[2, 5]), set(&[3, 4]), 0, set(&[4]), 0, set(&[2]), 0, 0])
+    check(lines_up(&events, 0, &[0, 5, 2]) & lines_up(&events, 0, &[1, 3, 4]))
 }
 
 #[test]
 fn a_number_past_the_orders_changes_nothing() -> Result<(), Fail> {
     let mut order = Order { rows: [7; 32] };
-    check_eq(nth_order(&two_plus_two(), 4, &mut order), false)?;
-    check(order.rows == [7; 32])?;
-    check_eq(nth_order(&two_plus_two(), 65535, &mut order), false)?;
+    check_eq(nth_order(&two_plus_two(false), 4, &mut order), false)?;
     check(order.rows == [7; 32])
 }
 
@@ -124,65 +97,30 @@ fn three_locations_mixed() -> Result<(), Fail> {
         ],
     );
     check_eq(count_orders(&events), Some(6))?;
-    check(
-        rows_of(&events, 0)
-            == [
-                set(&[4]),
-                set(&[3, 5, 6]),
-                0,
-                set(&[5, 6]),
-                0,
-                set(&[6]),
-                0,
-                0,
-            ],
-    )?;
-    check(
-        rows_of(&events, 4)
-            == [
-                set(&[4]),
-                set(&[3, 5, 6]),
-                0,
-                set(&[5]),
-                0,
-                0,
-                set(&[3, 5]),
-                0,
-            ],
-    )?;
-    check(
-        rows_of(&events, 5)
-            == [
-                set(&[4]),
-                set(&[3, 5, 6]),
-                0,
-                0,
-                0,
-                set(&[3]),
-                set(&[3, 5]),
-                0,
-            ],
-    )
+    check(lines_up(&events, 0, &[0, 4]) & lines_up(&events, 0, &[1, 3, 5, 6]))?;
+    check(lines_up(&events, 4, &[0, 4]) & lines_up(&events, 4, &[1, 6, 3, 5]))?;
+    check(lines_up(&events, 5, &[2]) & lines_up(&events, 5, &[1, 6, 5, 3]))
 }
 
 #[test]
 fn seven_free_writes_have_5040_orders() -> Result<(), Fail> {
-    let events = free_writes(7);
+    let events = run_of(&[INITIAL, FREE, FREE, FREE, FREE, FREE, FREE, FREE]);
     check_eq(count_orders(&events), Some(5040))?;
-    let mut order = Order { rows: [0; 32] };
-    let mut found = 0u32;
-    for number in 0..6000u16 {
-        if nth_order(&events, number, &mut order) & (found < 6000) {
-            found += 1;
-        }
-    }
-    check_eq(found, 5040)?;
-    check(rows_of(&events, 5039) == [254, 0, 2, 6, 14, 30, 62, 126])
+    check(lines_up(&events, 0, &[0, 1, 2, 3, 4, 5, 6, 7]))?;
+    check(lines_up(&events, 5039, &[0, 7, 6, 5, 4, 3, 2, 1]))?;
+    check(!lines_up(&events, 5040, &[0]))
 }
 
 #[test]
-fn more_than_5040_orders_are_not_counted() -> Result<(), Fail> {
-    check_eq(count_orders(&free_writes(8)), None)?;
-    check_eq(count_orders(&free_writes(31)), None)?;
-    check(rows_of(&free_writes(8), 1) == [510, 508, 504, 496, 480, 448, 384, 0])
+fn eight_free_writes_are_over() -> Result<(), Fail> {
+    let events = run_of(&[INITIAL, FREE, FREE, FREE, FREE, FREE, FREE, FREE, FREE]);
+    check_eq(count_orders(&events), None)?;
+    check(lines_up(&events, 5040, &[0, 2, 1, 3, 4, 5, 6, 7, 8]))
+}
+
+#[test]
+fn thirty_one_free_writes_are_over() -> Result<(), Fail> {
+    let mut writes = [FREE; 32];
+    writes[0] = INITIAL;
+    check_eq(count_orders(&run_of(&writes)), None)
 }
