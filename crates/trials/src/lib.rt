@@ -13,3 +13,5 @@ mod rules;
 mod sentences;
 #[cfg(test)]
 mod texts;
+#[cfg(test)]
+mod worked;
