@@ -1,4 +1,6 @@
 //! The bench: a run that is built up by calls, each refused exactly by its numbered refusals.
+#![tactic(auto)]
+
 pub mod action;
 pub mod bench;
 pub mod fault;

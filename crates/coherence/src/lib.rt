@@ -1,4 +1,6 @@
 //! Coherence orders: the orders in which the writes of a run took effect, by number.
+#![tactic(auto)]
+
 mod factorials;
 mod mask;
 pub mod numbers;

@@ -1,4 +1,6 @@
 //! Counting: how many things have a property, said by lists without repeats.
+#![tactic(auto)]
+
 ghost use Rattle.finite.specs.Counts.{SetFlags};
 ghost use Rattle.finite.specs.Laws.{OneCount, Fewer, Same, Carried, Nothing, NoMore, Something, Computed, Placed, Held};
 

@@ -1,4 +1,6 @@
 //! Records: the bytes of a run, their reader and their writer.
+#![tactic(auto)]
+
 pub mod fault;
 pub mod piece;
 pub mod read;

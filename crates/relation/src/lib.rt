@@ -1,4 +1,6 @@
 //! Event sets and relations as masks, their operators, and the climb to a least solution.
+#![tactic(auto)]
+
 pub mod climb;
 pub mod closing;
 pub mod mask;

@@ -1,4 +1,6 @@
 //! The program: reads a record of a run, and says what it holds.
+#![tactic(auto)]
+
 use std::io::{ErrorKind, Read};
 use std::{fs, io};
 

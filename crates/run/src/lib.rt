@@ -1,4 +1,6 @@
 //! Runs: events, run sources, the rules of a sound run, and the window.
+#![tactic(auto)]
+
 pub mod event;
 pub mod link;
 pub mod rule;

@@ -1,4 +1,6 @@
 //! Sentences: the grammar of a model text over sorts of tokens.
+#![tactic(auto)]
+
 pub mod fault;
 pub mod law;
 pub mod look;

@@ -1,4 +1,6 @@
 //! Summaries: what a record holds, in numbers and as text.
+#![tactic(auto)]
+
 ghost use Rattle.std.specs.Prelude.{◌≡◌, ℕ, ◌+◌, ◌<◌, ◌≤◌, IfOk, string_bytes, MatchResult};
 ghost use Rattle.finite.specs.Counts.{Counts};
 ghost use Rattle.record.specs.Readings.{Faulty};

@@ -1,4 +1,6 @@
 //! Tokens: from the bytes of a model text to its tokens, each at its place.
+#![tactic(auto)]
+
 pub mod class;
 pub mod fault;
 pub mod lexer;

@@ -1,4 +1,6 @@
 //! Trials: worked examples of runs, benches, records, relations, coherence orders, texts and sentences, each proved safe and then run.
+#![tactic(auto)]
+
 #[cfg(test)]
 mod benches;
 #[cfg(test)]
