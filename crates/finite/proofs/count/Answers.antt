@@ -7,8 +7,8 @@ use Rattle.finite.proofs.count.Goals as goal
 pub loop-i-init : goal.loop-i-init
 loop-i-init c = sym (count_none (flag_at c.args.flags.now))
 
-pub overflow-add-found : goal.overflow-add-found
-overflow-add-found c =
+pub overflow_add-found : goal.overflow_add-found
+overflow_add-found c =
     let h = count_below_le (flag_at c.args.flags.now) c.loop-i.i in
     search rules
 

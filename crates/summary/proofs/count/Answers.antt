@@ -8,8 +8,8 @@ use Rattle.summary.proofs.count.Goals as goal
 pub loop-n-init : goal.loop-n-init
 loop-n-init c = sym (count_none _)
 
-pub overflow-add-found : goal.overflow-add-found
-overflow-add-found c = let h = count_below_le (test c.args.mark (table_run c.args.events.now.events)) c.loop-n.n in search rules
+pub overflow_add-found : goal.overflow_add-found
+overflow_add-found c = let h = count_below_le (test c.args.mark (table_run c.args.events.now.events)) c.loop-n.n in search rules
 
 pub loop-n-preserved : goal.loop-n-preserved
 loop-n-preserved c = let e = count_more (test c.args.mark (table_run c.args.events.now.events)) c.loop-n.n in grind (arith, nat_tests)

@@ -7,7 +7,7 @@ pub returns : goal.returns
 returns c =
     let shows = c.of_events.ensures in (
       _,
-      c.in-ok-record.ensures.reads.1,
+      c.in_ok-record.ensures.reads.1,
       record {
         events = counted_shown Standing _ _ _ shows c.count.ensures;
         ties = counted_shown Tied _ _ _ shows c.count-2.ensures;

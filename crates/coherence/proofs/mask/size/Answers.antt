@@ -8,8 +8,8 @@ use Rattle.coherence.proofs.mask.size.Goals.{then-contains, else-contains}
 pub loop-n-init : goal.loop-n-init
 loop-n-init c = size_none (has c.args.mask)
 
-pub overflow-add-found : goal.overflow-add-found
-overflow-add-found c = let h = size_le (has c.args.mask) c.loop-n.n in search rules
+pub overflow_add-found : goal.overflow_add-found
+overflow_add-found c = let h = size_le (has c.args.mask) c.loop-n.n in search rules
 
 pub loop-n-preserved : goal.loop-n-preserved
 loop-n-preserved c =

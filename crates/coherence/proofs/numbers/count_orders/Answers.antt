@@ -9,8 +9,8 @@ use Rattle.coherence.proofs.numbers.count_orders.Goals as goal
 pub loop-location-init : goal.loop-location-init
 loop-location-init c = product_none (table_run c.args.events.now.events)
 
-pub overflow-mul-total : goal.overflow-mul-total
-overflow-mul-total c =
+pub overflow_mul-total : goal.overflow_mul-total
+overflow_mul-total c =
     let most = mul-le c.loop-location.total c.ways.result 5041 362880 (omega (arith, c.loop-location.invariant)) (omega (arith, c.ways.ensures.value)) in
     search rules
 

@@ -7,8 +7,8 @@ pub returns-then-split-gt0 : goal.returns-then-split-gt0
 returns-then-split-gt0 c =
     gives_none (table_run c.args.events.now.events) c.args.number c.args.place.now.rows c.args.place.now.rows (subst (λ n. 0 < n) c.split.ensures.rest c.if-split-gt0.true) refl
 
-pub lay-lines-requires : goal.lay-lines-requires
-lay-lines-requires c =
+pub lay_lines-requires : goal.lay_lines-requires
+lay_lines-requires c =
     let small : c.args.number < 65536 = search rules in
     record {
       below = digits_fit (table_run c.args.events.now.events) c.args.number c.split.new.digits c.split.ensures.digits;
@@ -17,4 +17,4 @@ lay-lines-requires c =
 
 pub returns : goal.returns
 returns c =
-    gives_order (table_run c.args.events.now.events) c.args.number c.args.place.now.rows c.lay-lines.new.order.rows c.split.new.digits c.split.ensures.digits (omega (arith, c.split.ensures.rest, c.if-split-gt0.false)) c.lay-lines.ensures
+    gives_order (table_run c.args.events.now.events) c.args.number c.args.place.now.rows c.lay_lines.new.order.rows c.split.new.digits c.split.ensures.digits (omega (arith, c.split.ensures.rest, c.if-split-gt0.false)) c.lay_lines.ensures

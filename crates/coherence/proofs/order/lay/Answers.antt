@@ -2,11 +2,11 @@ use Rattle.std.proofs.Common.{◌≡◌, length, sym, refl, subst, arith, rules}
 use Rattle.coherence.proofs.Laying.{Underway, underway_start, underway_more, underway_done}
 use Rattle.coherence.proofs.order.lay.Goals as goal
 
-pub nonzero-div-digit : goal.nonzero-div-digit
-nonzero-div-digit c = c.factorial-radix.ensures.positive
+pub nonzero_div-digit : goal.nonzero_div-digit
+nonzero_div-digit c = c.factorial-radix.ensures.positive
 
-pub nonzero-rem-digit : goal.nonzero-rem-digit
-nonzero-rem-digit c = c.factorial-radix.ensures.positive
+pub nonzero_rem-digit : goal.nonzero_rem-digit
+nonzero_rem-digit c = c.factorial-radix.ensures.positive
 
 pub loop-others-init : goal.loop-others-init
 loop-others-init c =

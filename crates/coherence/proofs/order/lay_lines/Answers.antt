@@ -9,7 +9,7 @@ loop-location-init c = rows_none (table_run c.args.events.now.events) c.args.dig
 
 pub loop-location-preserved : goal.loop-location-preserved
 loop-location-preserved c =
-    rows_more (table_run c.args.events.now.events) c.args.digits.now c.loop-location.order.rows c.lay-line.new.order.rows c.loop-location.location c.loop-location.invariant c.lay-line.ensures
+    rows_more (table_run c.args.events.now.events) c.args.digits.now c.loop-location.order.rows c.lay_line.new.order.rows c.loop-location.location c.loop-location.invariant c.lay_line.ensures
 
 pub returns : goal.returns
 returns c = c.loop-location.invariant ∙ ap (rows_at (table_run c.args.events.now.events) c.args.digits.now) (omega arith)

@@ -4,7 +4,7 @@ use Rattle.record.proofs.Begins.{entry_begins, tie_begins, settling_begins, end_
 use Rattle.record.proofs.piece.piece_of.Goals as goal
 
 pub returns-then-headed : goal.returns-then-headed
-returns-then-headed c = ap (λ a. Call a 12) c.entry-at.ensures ∙ sym (entry_begins c.args.bytes.now (sym c.if-headed.ensures))
+returns-then-headed c = ap (λ a. Call a 12) c.entry_at.ensures ∙ sym (entry_begins c.args.bytes.now (sym c.if-headed.ensures))
 
 pub returns-then-headed-2 : goal.returns-then-headed-2
 returns-then-headed-2 c = sym (tie_begins c.args.bytes.now (sym c.if-headed.ensures) (sym c.if-headed-2.ensures))

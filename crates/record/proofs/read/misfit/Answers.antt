@@ -6,8 +6,8 @@ use Rattle.record.proofs.read.misfit.Goals as goal
 pub loop-turn-init : goal.loop-turn-init
 loop-turn-init c = searching_none c.args.bytes.now
 
-pub overflow-add-at : goal.overflow-add-at
-overflow-add-at c =
+pub overflow_add-at : goal.overflow_add-at
+overflow_add-at c =
     let h = field_within c.args.bytes.now c.loop-turn.at _ c.loop-turn.invariant.within (c.in-Call.ensures ∙ ap piece_of c.rest.ensures) in
     search rules
 

@@ -13,8 +13,8 @@ returns-in-Err c =
     let r = replayed_refused c.args.bytes.now (bench_run c.args.bench.now) c.loop-turn.-turn c.loop-turn.at run a _ _ c.loop-turn.invariant c.loop-turn-test.true (c.in-Call.ensures ∙ ap piece_of c.rest.ensures) why in
     record { fault = r.fault; run = c.act.ensures.run ∙ ap (λ o. stepped o run a) why ∙ r.run }
 
-pub overflow-add-at : goal.overflow-add-at
-overflow-add-at c =
+pub overflow_add-at : goal.overflow_add-at
+overflow_add-at c =
     let h = field_within c.args.bytes.now c.loop-turn.at _ c.loop-turn.invariant.within (c.in-Call.ensures ∙ ap piece_of c.rest.ensures) in
     search rules
 
@@ -32,7 +32,7 @@ pub loop-turn-preserved : goal.loop-turn-preserved
 loop-turn-preserved c =
     let run = bench_run c.loop-turn.bench in
     let a = c.in-Call.action in
-    let free = not_refused (refusal run a) c.in-default.field-0 c.in-default.ensures.value in
+    let free = not_refused (refusal run a) c.in_default.field-0 c.in_default.ensures.value in
     replaying_step c.args.bytes.now (bench_run c.args.bench.now) c.loop-turn.-turn c.loop-turn.at run _ a _ c.loop-turn.invariant c.loop-turn-test.true (c.in-Call.ensures ∙ ap piece_of c.rest.ensures) free (c.act.ensures.run ∙ ap (λ o. stepped o run a) free)
 
 pub returns : goal.returns

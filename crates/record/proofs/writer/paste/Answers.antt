@@ -5,6 +5,6 @@ use Rattle.record.proofs.writer.paste.Goals as goal
 pub returns : goal.returns
 returns c =
     record {
-      stands = pasted_part c.args.out.now _ c.args.text.now c.args.at _ c.copy-from-slice.ensures.after (omega arith);
+      stands = pasted_part c.args.out.now _ c.args.text.now c.args.at _ c.copy_from_slice.ensures.after (omega arith);
       behind = refl;
     }

@@ -7,8 +7,8 @@ use Rattle.record.proofs.writer.stage_size.Goals as goal
 pub loop-n-init : goal.loop-n-init
 loop-n-init c = sym (ap length (stage_none c.args.stage (table_run c.args.table.now.events)))
 
-pub overflow-add-total : goal.overflow-add-total
-overflow-add-total c = omega (arith, stage_short c.args.stage (table_run c.args.table.now.events) c.loop-n.n, call_short c.call_of.result)
+pub overflow_add-total : goal.overflow_add-total
+overflow_add-total c = omega (arith, stage_short c.args.stage (table_run c.args.table.now.events) c.loop-n.n, call_short c.call_of.result)
 
 pub loop-n-preserved : goal.loop-n-preserved
 loop-n-preserved c = counted_more c.args.stage _ c.loop-n.n _ _ c.call_of.result c.loop-n.invariant c.call_of.ensures c.size-total.ensures

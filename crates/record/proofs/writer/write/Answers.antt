@@ -20,7 +20,7 @@ returns c =
     let events = c.events-table.result.events in
     let same = c.events-table.ensures.same in
     let long : length events ≡ 32 = search rules in
-    let wrote = wrote_all (table_run events) c.args.out.now _ _ _ _ _ _ c.paste.result _ c.write-stage-entered.ensures c.write-stage-tied.ensures c.write-stage-settled.ensures c.paste.ensures in
+    let wrote = wrote_all (table_run events) c.args.out.now _ _ _ _ _ _ c.paste.result _ c.write_stage-entered.ensures c.write_stage-tied.ensures c.write_stage-settled.ensures c.paste.ensures in
     record {
       wrote = subst (λ run. Wrote run c.args.out.now c.paste.new.out (Ok c.paste.result)) same wrote;
       round_trip = table_reads_back events _ long same c.events-table.ensures.kept;

@@ -13,14 +13,14 @@ returns-in-Some c =
     let is = sym c.in-Some.ensures in
     record { answers = subst (Answers run a) (ap answer is) (answered run a); value = sym (ap answer is); run = sym (ap (λ o. stepped o run a) is) }
 
-pub invariant-of-self : goal.invariant-of-self
-invariant-of-self c =
+pub invariant_of-self : goal.invariant_of-self
+invariant_of-self c =
     let b = c.args.self.now in
-    lasts (bench_run b) _ c.args.action (sym c.in-default.ensures) c.take.ensures (b.ranges, (b.steps, (b.initials, (b.sources, (b.settlings, tt)))))
+    lasts (bench_run b) _ c.args.action (sym c.in_default.ensures) c.take.ensures (b.ranges, (b.steps, (b.initials, (b.sources, (b.settlings, tt)))))
 
 pub returns : goal.returns
 returns c =
     let run = bench_run c.args.self.now in
     let a = c.args.action in
-    let is = sym c.in-default.ensures in
+    let is = sym c.in_default.ensures in
     record { answers = subst (Answers run a) (ap answer is) (answered run a); value = sym (ap answer is); run = c.take.ensures ∙ sym (ap (λ o. stepped o run a) is) }

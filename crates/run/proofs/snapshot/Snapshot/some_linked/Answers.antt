@@ -5,4 +5,4 @@ pub loop-m-init : goal.loop-m-init
 loop-m-init c = any_none _
 
 pub loop-m-preserved : goal.loop-m-preserved
-loop-m-preserved c = any_more _ c.loop-m.m _ _ c.loop-m.invariant c.linked-at-found.ensures
+loop-m-preserved c = any_more _ c.loop-m.m _ _ c.loop-m.invariant c.linked_at-found.ensures
