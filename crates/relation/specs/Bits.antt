@@ -28,12 +28,12 @@ pub bit_nothing : (n : ℕ) → bit 0 n ≡ 0
 bit_nothing n = ap (λ z. z % 2) (zero-div (2 ^ n))
 
 -- the bit of a union
-pub bit_or : (x y n : ℕ) → bit (bit_or x y) n ≡ bit_or (bit x n) (bit y n)
-bit_or x y n = ap (λ z. z % 2) (or_shr x y n) ∙ or_mod (x / 2 ^ n) (y / 2 ^ n) 1
+pub bit_of_or : (x y n : ℕ) → bit (bit_or x y) n ≡ bit_or (bit x n) (bit y n)
+bit_of_or x y n = ap (λ z. z % 2) (or_shr x y n) ∙ or_mod (x / 2 ^ n) (y / 2 ^ n) 1
 
 -- the bit of an intersection
-pub bit_and : (x y n : ℕ) → bit (bit_and x y) n ≡ bit_and (bit x n) (bit y n)
-bit_and x y n = ap (λ z. z % 2) (and_shr x y n) ∙ and_mod (x / 2 ^ n) (y / 2 ^ n) 1
+pub bit_of_and : (x y n : ℕ) → bit (bit_and x y) n ≡ bit_and (bit x n) (bit y n)
+bit_of_and x y n = ap (λ z. z % 2) (and_shr x y n) ∙ and_mod (x / 2 ^ n) (y / 2 ^ n) 1
 
 -- the bit of what a number lacks to all ones
 pub bit_lacks : (k n y : ℕ) → n < k → y < 2 ^ k → bit (2 ^ k - 1 - y) n ≡ 1 - bit y n
@@ -88,17 +88,17 @@ and_of_bits (inr p) (inr q) = (λ _. (p, q), λ _. ap₂ bit_and p q)
 pub in_or : (x y n : ℕ) → Member (bit_or x y) n ↔ (Member x n ⊎ Member y n)
 in_or x y n =
     let by = or_of_bits (bit_cases x n) (bit_cases y n) in (
-      λ m. ⊎_elim (λ e. inl (record { within = m.within; raised = e })) (λ e. inr (record { within = m.within; raised = e })) (by.0 (sym (bit_or x y n) ∙ m.raised)),
+      λ m. ⊎_elim (λ e. inl (record { within = m.within; raised = e })) (λ e. inr (record { within = m.within; raised = e })) (by.0 (sym (bit_of_or x y n) ∙ m.raised)),
       ⊎_elim
-          (λ m. record { within = m.within; raised = bit_or x y n ∙ by.1 (inl m.raised) })
-          (λ m. record { within = m.within; raised = bit_or x y n ∙ by.1 (inr m.raised) }),
+          (λ m. record { within = m.within; raised = bit_of_or x y n ∙ by.1 (inl m.raised) })
+          (λ m. record { within = m.within; raised = bit_of_or x y n ∙ by.1 (inr m.raised) }),
     )
 
 -- an intersection has what both have
 pub in_and : (x y n : ℕ) → Member (bit_and x y) n ↔ (Member x n × Member y n)
 in_and x y n =
     let by = and_of_bits (bit_cases x n) (bit_cases y n) in
-    (λ m. let e = by.0 (sym (bit_and x y n) ∙ m.raised) in (record { within = m.within; raised = e.0 }, record { within = m.within; raised = e.1 }), λ m. record { within = m.0.within; raised = bit_and x y n ∙ by.1 (m.0.raised, m.1.raised) })
+    (λ m. let e = by.0 (sym (bit_of_and x y n) ∙ m.raised) in (record { within = m.within; raised = e.0 }, record { within = m.within; raised = e.1 }), λ m. record { within = m.0.within; raised = bit_of_and x y n ∙ by.1 (m.0.raised, m.1.raised) })
 
 -- the bits turned over have what the mask lacks
 pub in_not : (y n : ℕ) → y < 2 ^ 32 → Member (4294967295 - y) n ↔ ((n < 32) × (Member y n → ⊥))

@@ -2,7 +2,7 @@
 use Rattle.std.specs.Prelude.{◌≡◌, ℕ, ◌+◌, ◌-◌, ◌*◌, ◌/◌, ◌%◌, ◌^◌, ◌<◌, ◌↔◌, Decides, ◌==◌, bit_and, bit_or}
 use Rattle.std.proofs.Common.{subst, ⊎_elim, arith}
 use Rattle.std.proofs.Math.Path.{subst⁻¹}
-use Rattle.std.proofs.Math.Logic.{Iff·trans}
+use Rattle.std.proofs.Math.Logic.Iff
 use Rattle.std.proofs.lemmas.Nat.{or_lt, and_le_l, and_le_r, and_mask, mod_below}
 use Rattle.std.proofs.lemmas.Bool.Decides.{Decides-eqb, Decides-like}
 use Rattle.relation.specs.Sets.{Events, Either, Both, Without, Single, Gated, SameEvents, Vacant}
@@ -11,7 +11,7 @@ use Rattle.relation.specs.Bits.{bit_cases, in_or, in_and, in_not, in_power, in_n
 
 -- a mask shows what has the same events
 pub marks_as : {x : ℕ} (A B : Events) → Marks x A → ((n : ℕ) → A n ↔ B n) → Marks x B
-marks_as A B m h = record { fits = m.fits; same = λ n. Iff·trans (m.same n) (h n) }
+marks_as A B m h = record { fits = m.fits; same = λ n. Iff.trans (m.same n) (h n) }
 
 -- the mask of no bit shows no event
 pub nothing_marks : Marks 0 (λ n. ⊥)

@@ -1,7 +1,7 @@
 -- Sequences and joins, middle event by middle event. Assumes nothing.
 use Rattle.std.specs.Prelude.{◌≡◌, ℕ, ◌+◌, ◌^◌, ◌<◌, ◌≤◌, ◌↔◌, List, length, slice_index}
 use Rattle.std.proofs.Common.{subst, inl, inr, ⊎_elim, arith}
-use Rattle.std.proofs.Math.Logic.{Iff·trans}
+use Rattle.std.proofs.Math.Logic.Iff
 use Rattle.std.proofs.lemmas.Bool.{cases_eq}
 use Rattle.relation.specs.Sets.{Either, Gated}
 use Rattle.relation.specs.Relations.{Pairs, Never, Union, Sequence, Inverse, Product, Path, one, more, Inside}
@@ -10,7 +10,7 @@ use Rattle.relation.specs.Marked.{marks_as}
 
 -- rows show what has the same pairs
 pub shows_as : {rows : List ℕ} (R S : Pairs) → Shows rows R → ((a b : ℕ) → R a b ↔ S a b) → Shows rows S
-shows_as R S s h = record { long = s.long; fits = s.fits; same = λ a b. Iff·trans (s.same a b) (h a b) }
+shows_as R S s h = record { long = s.long; fits = s.fits; same = λ a b. Iff.trans (s.same a b) (h a b) }
 
 -- a row of the whole with the onward row behind its gate
 pub through_row : (whole rows : List ℕ) (a middle onward w : ℕ) {v : ℕ} → a < 32 → Marks w (Gated (Member (slice_index rows a) middle) (Member onward)) → Marks v (Either (Member (slice_index whole a)) (Member w)) → Marks v (Union (Related whole) (Product (Inverse (Related rows) middle) (Member onward)) a)
