@@ -18,8 +18,8 @@ word_here c = c.in-Word.ensures ∙ ap (λ t. parted (item_of t)) c.rest.ensures
 word_on : (c : In-Word) → Onward c.args.text.now c.loop-at.at (map lexeme_view (vec_items c.loop-at.found) ++ ((c.loop-at.at, view c.in-Word.token) ∷ [])) c.in-Word.length
 word_on c = walked_word c.args.text.now c.loop-at.at _ (view c.in-Word.token) _ c.loop-at.invariant.walks (word_here c)
 
-pub overflow-add-at : goal.overflow-add-at
-overflow-add-at c = let h : c.loop-at.at + c.in-Gap.length ≤ length c.args.text.now = (gap_on (goal.at.overflow-add-at c).In-Gap).inside in search rules
+pub overflow_add-at : goal.overflow_add-at
+overflow_add-at c = let h : c.loop-at.at + c.in-Gap.length ≤ length c.args.text.now = (gap_on (goal.at.overflow_add-at c).In-Gap).inside in search rules
 
 pub loop-at-smaller-in-Gap : goal.loop-at-smaller-in-Gap
 loop-at-smaller-in-Gap c = let on = gap_on (goal.at.loop-at-smaller-in-Gap c).In-Gap in omega (arith, on.some, on.inside)
@@ -27,8 +27,8 @@ loop-at-smaller-in-Gap c = let on = gap_on (goal.at.loop-at-smaller-in-Gap c).In
 pub loop-at-preserved-in-Gap : goal.loop-at-preserved-in-Gap
 loop-at-preserved-in-Gap c = record { walks = (gap_on (goal.at.loop-at-preserved-in-Gap c).In-Gap).walks; few = c.loop-at.invariant.few }
 
-pub overflow-add-at-in-Word : goal.overflow-add-at-in-Word
-overflow-add-at-in-Word c = let h : c.loop-at.at + c.in-Word.length ≤ length c.args.text.now = (word_on (goal.at.overflow-add-at-in-Word c).In-Word).inside in search rules
+pub overflow_add-at-in-Word : goal.overflow_add-at-in-Word
+overflow_add-at-in-Word c = let h : c.loop-at.at + c.in-Word.length ≤ length c.args.text.now = (word_on (goal.at.overflow_add-at-in-Word c).In-Word).inside in search rules
 
 pub loop-at-smaller : goal.loop-at-smaller
 loop-at-smaller c = let on = word_on (goal.at.loop-at-smaller c).In-Word in omega (arith, on.some, on.inside)
@@ -38,7 +38,7 @@ loop-at-preserved c =
     gathered_word c.args.text.now c.loop-at.at (vec_items c.loop-at.found) (vec_items c.push.new.self) (record { token = c.in-Word.token; place = c.loop-at.at }) c.in-Word.length
     c.loop-at.invariant (λ e. c.if-len-eq-TOKENS.false (let z : c.len.result ≡ 1024 = search rules in z))
     (pushed {was = vec_items c.loop-at.found} {now = vec_items c.push.new.self} {xs = vec_items c.loop-at.found} (record { token = c.in-Word.token; place = c.loop-at.at } ∷ []) refl
-    c.in-ok-push.was c.push.ensures.items) refl (word_here (goal.at.loop-at-preserved c).In-Word)
+    c.in_ok-push-in-Word.was c.push.ensures.items) refl (word_here (goal.at.loop-at-preserved c).In-Word)
 
 pub returns-then-len-eq-TOKENS : goal.returns-then-len-eq-TOKENS
 returns-then-len-eq-TOKENS c = (

@@ -12,8 +12,8 @@ gap_on c = walked_gap c.args.text.now c.loop-at.at _ _ c.loop-at.invariant.walks
 word_on : (c : In-Word) → Onward c.args.text.now c.loop-at.at (c.loop-at.invariant.found ++ ((c.loop-at.at, view c.in-Word.field-0) ∷ [])) c.in-Word.length
 word_on c = walked_word c.args.text.now c.loop-at.at c.loop-at.invariant.found (view c.in-Word.field-0) _ c.loop-at.invariant.walks (c.in-Word.ensures ∙ ap (λ t. parted (item_of t)) c.rest.ensures)
 
-pub overflow-add-at : goal.overflow-add-at
-overflow-add-at c = let h : c.loop-at.at + c.in-Gap.length ≤ length c.args.text.now = (gap_on (goal.at.overflow-add-at c).In-Gap).inside in search rules
+pub overflow_add-at : goal.overflow_add-at
+overflow_add-at c = let h : c.loop-at.at + c.in-Gap.length ≤ length c.args.text.now = (gap_on (goal.at.overflow_add-at c).In-Gap).inside in search rules
 
 pub loop-at-smaller-in-Gap : goal.loop-at-smaller-in-Gap
 loop-at-smaller-in-Gap c = let on = gap_on (goal.at.loop-at-smaller-in-Gap c).In-Gap in omega (arith, on.some, on.inside)
@@ -21,8 +21,8 @@ loop-at-smaller-in-Gap c = let on = gap_on (goal.at.loop-at-smaller-in-Gap c).In
 pub loop-at-preserved-in-Gap : goal.loop-at-preserved-in-Gap
 loop-at-preserved-in-Gap c = record { found = _; walks = (gap_on (goal.at.loop-at-preserved-in-Gap c).In-Gap).walks }
 
-pub overflow-add-at-in-Word : goal.overflow-add-at-in-Word
-overflow-add-at-in-Word c = let h : c.loop-at.at + c.in-Word.length ≤ length c.args.text.now = (word_on (goal.at.overflow-add-at-in-Word c).In-Word).inside in search rules
+pub overflow_add-at-in-Word : goal.overflow_add-at-in-Word
+overflow_add-at-in-Word c = let h : c.loop-at.at + c.in-Word.length ≤ length c.args.text.now = (word_on (goal.at.overflow_add-at-in-Word c).In-Word).inside in search rules
 
 pub loop-at-smaller : goal.loop-at-smaller
 loop-at-smaller c = let on = word_on (goal.at.loop-at-smaller c).In-Word in omega (arith, on.some, on.inside)

@@ -52,6 +52,6 @@ pub returns-in-61 : goal.returns-in-61
 unfolding single
 returns-in-61 c = sym (ap (λ b. parted (single b)) c.in-61.is)
 
-pub returns-in-default : goal.returns-in-default
+pub returns-in_default : goal.returns-in_default
 unfolding single
-returns-in-default c = grind (arith, nat_tests)
+returns-in_default c = grind (arith, nat_tests)
