@@ -4,34 +4,34 @@ use Rattle.sentence.specs.Exprs.{tree_of}
 use Rattle.sentence.proofs.Phrases.{name_here, equals_here, goes_bound, unbound_name, unbound_equals, unbound_tree, unbound_on}
 use Rattle.sentence.proofs.phrase.binding.Goals as goal
 
-pub returns-then-not-name-at : goal.returns-then-not-name-at
-returns-then-not-name-at c = unbound_name c.args.sorts.now c.args.at (sym c.name_at.ensures ∙ c.if-not-name-at.true)
+pub returns-then-not-name_at : goal.returns-then-not-name_at
+returns-then-not-name_at c = unbound_name c.args.sorts.now c.args.at (sym c.name_at.ensures ∙ c.if-not-name_at.true)
 
-pub overflow-add-at : goal.overflow-add-at
-overflow-add-at c =
-    let h : c.args.at < length c.args.sorts.now = name_here c.args.sorts.now c.args.at (sym c.name_at.ensures ∙ c.if-not-name-at.false) in
+pub overflow_add-at : goal.overflow_add-at
+overflow_add-at c =
+    let h : c.args.at < length c.args.sorts.now = name_here c.args.sorts.now c.args.at (sym c.name_at.ensures ∙ c.if-not-name_at.false) in
     search rules
 
-pub overflow-add-result : goal.overflow-add-result
-overflow-add-result c =
-    let h : c.args.at < length c.args.sorts.now = name_here c.args.sorts.now c.args.at (sym c.name_at.ensures ∙ c.if-not-name-at.false) in
+pub overflow_add-result : goal.overflow_add-result
+overflow_add-result c =
+    let h : c.args.at < length c.args.sorts.now = name_here c.args.sorts.now c.args.at (sym c.name_at.ensures ∙ c.if-not-name_at.false) in
     search rules
 
-pub returns-then-not-equals-at : goal.returns-then-not-equals-at
-returns-then-not-equals-at c = unbound_equals c.args.sorts.now c.args.at (sym c.name_at.ensures ∙ c.if-not-name-at.false) (sym c.equals-at.ensures ∙ c.if-not-equals-at.true)
+pub returns-then-not-equals_at : goal.returns-then-not-equals_at
+returns-then-not-equals_at c = unbound_equals c.args.sorts.now c.args.at (sym c.name_at.ensures ∙ c.if-not-name_at.false) (sym c.equals_at.ensures ∙ c.if-not-equals_at.true)
 
-pub overflow-add-at-2 : goal.overflow-add-at-2
-overflow-add-at-2 c =
-    let h : c.args.at + 1 < length c.args.sorts.now = equals_here c.args.sorts.now (c.args.at + 1) (sym c.equals-at.ensures ∙ c.if-not-equals-at.false) in
+pub overflow_add-at-2 : goal.overflow_add-at-2
+overflow_add-at-2 c =
+    let h : c.args.at + 1 < length c.args.sorts.now = equals_here c.args.sorts.now (c.args.at + 1) (sym c.equals_at.ensures ∙ c.if-not-equals_at.false) in
     search rules
 
-pub returns-in-err-piece : goal.returns-in-err-piece
-returns-in-err-piece c =
-    let p = err_from_is_err_and c.from-residual.result c.from-residual.ensures.1 in
-    unbound_on c.args.sorts.now c.args.at c.from-residual.result p.0 c.in-err-piece.field-0.0 p.1 p.2
-    (unbound_tree c.args.sorts.now c.args.at c.in-err-piece.field-0.0 (sym c.name_at.ensures ∙ c.if-not-name-at.false) (sym c.equals-at.ensures ∙ c.if-not-equals-at.false) c.in-err-piece.ensures.led)
+pub returns-in_err-piece : goal.returns-in_err-piece
+returns-in_err-piece c =
+    let p = err_from_is_err_and c.from_residual.result c.from_residual.ensures.1 in
+    unbound_on c.args.sorts.now c.args.at c.from_residual.result p.0 c.in_err-piece.field-0.0 p.1 p.2
+    (unbound_tree c.args.sorts.now c.args.at c.in_err-piece.field-0.0 (sym c.name_at.ensures ∙ c.if-not-name_at.false) (sym c.equals_at.ensures ∙ c.if-not-equals_at.false) c.in_err-piece.ensures.led)
 
 pub returns : goal.returns
 returns c =
-    goes_bound c.args.sorts.now c.args.at (tree_of c.in-ok-piece.piece.tree) c.in-ok-piece.piece.next (sym c.name_at.ensures ∙ c.if-not-name-at.false) (sym c.equals-at.ensures ∙ c.if-not-equals-at.false)
-    c.in-ok-piece.ensures.led c.in-ok-piece.ensures.halts
+    goes_bound c.args.sorts.now c.args.at (tree_of c.in_ok-piece.piece.tree) c.in_ok-piece.piece.next (sym c.name_at.ensures ∙ c.if-not-name_at.false) (sym c.equals_at.ensures ∙ c.if-not-equals_at.false)
+    c.in_ok-piece.ensures.led c.in_ok-piece.ensures.halts
