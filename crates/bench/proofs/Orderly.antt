@@ -18,8 +18,12 @@ use Rattle.bench.proofs.Marks.{tied_orderly, settled_orderly}
 use Rattle.bench.proofs.Refused.{opened}
 
 -- the facts in a bench's type, as its fields have them
-abbrev pub Tested : Run → Type 0
-Tested run = NoneFaulty Ranges run × (NoneFaulty Steps run × (NoneFaulty Initials run × (NoneFaulty Sources run × (NoneMisplaced run × Unit {0}))))
+pub record Tested (run : Run) : Type 0 where
+  pub ranges : NoneFaulty Ranges run
+  pub steps : NoneFaulty Steps run
+  pub initials : NoneFaulty Initials run
+  pub sources : NoneFaulty Sources run
+  pub settlings : NoneMisplaced run
 
 -- a test that no standing event fails says so of each, and the other way round
 each_clear : (run : Run) (p : ℕ → Event → Bool) (P : ℕ → Event → Type 0) → ((n : ℕ) (e : Event) → Decides (not (p n e)) (P n e)) →
@@ -38,11 +42,11 @@ clear_each run p P each kept n l = go (run n) refl
 pub orderly : (run : Run) → Tested run → Orderly run
 orderly run t =
     record {
-      ranges = kept Ranges t.0;
-      steps = kept Steps t.1.0;
-      initials = kept Initials t.1.1.0;
-      sources = kept Sources t.1.1.1.0;
-      settlings = each_clear run (misplaced run) _ (settled_decided run) t.1.1.1.1.0;
+      ranges = kept Ranges t.ranges;
+      steps = kept Steps t.steps;
+      initials = kept Initials t.initials;
+      sources = kept Sources t.sources;
+      settlings = each_clear run (misplaced run) _ (settled_decided run) t.settlings;
     }
   where
     kept : (rule : Rule) → NoneFaulty rule run → Kept rule run
@@ -51,14 +55,21 @@ orderly run t =
 -- what is kept passes the tests
 pub tested : (run : Run) → Orderly run → Tested run
 tested run o =
-    (clear Ranges o.ranges, (clear Steps o.steps, (clear Initials o.initials, (clear Sources o.sources, (clear_each run (misplaced run) _ (settled_decided run) o.settlings, tt)))))
+    record {
+      ranges = clear Ranges o.ranges;
+      steps = clear Steps o.steps;
+      initials = clear Initials o.initials;
+      sources = clear Sources o.sources;
+      settlings = clear_each run (misplaced run) _ (settled_decided run) o.settlings;
+    }
   where
     clear : (rule : Rule) → Kept rule run → NoneFaulty rule run
     clear rule = clear_each run (broken rule run) (Keeps rule run) (decided rule run)
 
 -- the run with no event passes
 pub nothing_tested : (run : Run) → run ≡ nothing → Tested run
-nothing_tested run h = subst Tested (sym h) ((λ n l. refl), ((λ n l. refl), ((λ n l. refl), ((λ n l. refl), ((λ n l. refl), tt)))))
+nothing_tested run h =
+    subst Tested (sym h) (record { ranges = λ n l. refl; steps = λ n l. refl; initials = λ n l. refl; sources = λ n l. refl; settlings = λ n l. refl })
 
 -- a step of an orderly run leads to an orderly one
 stays : (run : Run) (a : Action) → Open run a → Orderly run → Orderly (taken run a)

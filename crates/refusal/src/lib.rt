@@ -1,7 +1,6 @@
 //! Refusals: the number, the part that found it and the place, as every fault of every part tells them.
 #![tactic(auto)]
 
-
 /// The part of Rothgwen that found a fault: the call that was refused.
 #[derive(Clone, Copy, PartialEq, Eq, Debug)]
 pub enum Part {

@@ -3,7 +3,7 @@ use Rattle.bench.specs.Benches.{bench_run}
 use Rattle.bench.specs.Refusals.{Answers}
 use Rattle.bench.specs.Tests.{answer, stepped}
 use Rattle.bench.proofs.Refused.{answered}
-use Rattle.bench.proofs.Orderly.{lasts}
+use Rattle.bench.proofs.Orderly.{Tested, lasts}
 use Rattle.bench.proofs.bench.Bench.act.Goals as goal
 
 pub returns-in-Some : goal.returns-in-Some
@@ -16,7 +16,9 @@ returns-in-Some c =
 pub invariant_of-self : goal.invariant_of-self
 invariant_of-self c =
     let b = c.args.self.now in
-    lasts (bench_run b) _ c.args.action (sym c.in_default.ensures) c.take.ensures (b.ranges, (b.steps, (b.initials, (b.sources, (b.settlings, tt)))))
+    let kept : Tested (bench_run b) = record { ranges = b.ranges; steps = b.steps; initials = b.initials; sources = b.sources; settlings = b.settlings } in
+    let t = lasts (bench_run b) _ c.args.action (sym c.in_default.ensures) c.take.ensures kept in
+    record { ranges = t.ranges; steps = t.steps; initials = t.initials; sources = t.sources; settlings = t.settlings }
 
 pub returns : goal.returns
 returns c =

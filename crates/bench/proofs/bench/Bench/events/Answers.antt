@@ -5,4 +5,4 @@ use Rattle.bench.proofs.bench.Bench.events.Goals as goal
 pub returns : goal.returns
 returns c =
     let b = c.args.self.now in
-    record { same = refl; kept = orderly _ (b.ranges, (b.steps, (b.initials, (b.sources, (b.settlings, tt))))) }
+    record { same = refl; kept = orderly _ (record { ranges = b.ranges; steps = b.steps; initials = b.initials; sources = b.sources; settlings = b.settlings }) }
