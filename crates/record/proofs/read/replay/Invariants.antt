@@ -3,4 +3,4 @@ use Rattle.record.proofs.Turns.{Replaying}
 use Rattle.record.proofs.read.replay.Given as goal
 
 abbrev pub invariant-loop-turn : goal.invariant-loop-turn
-invariant-loop-turn l = Replaying l.bytes (bench_run l.initial.bench) l.-turn l.at (bench_run l.bench)
+invariant-loop-turn l = Replaying l.bytes (bench_run l.initial.bench) l._turn l.at (bench_run l.bench)
