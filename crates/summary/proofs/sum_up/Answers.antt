@@ -5,7 +5,7 @@ use Rattle.summary.proofs.sum_up.Goals as goal
 
 pub returns : goal.returns
 returns c =
-    let shows = c.of_events.ensures in (
+    let shows = c.of-events.ensures in (
       _,
       c.in_ok-record.ensures.reads.1,
       record {
