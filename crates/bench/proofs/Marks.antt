@@ -1,13 +1,13 @@
 -- Ties and settlings change a mark of one event and no field: an orderly run stays orderly. Assumes nothing.
-use Rattle.std.proofs.Common.{◌≡◌, ℕ, ◌≤◌, true, ◌⊎◌, Some, None, Option, sym, refl, ap, ◌∙◌, subst, inl, inr, ⊎_elim}
+use Rattle.std.proofs.Common.{◌≡◌, ℕ, true, ◌⊎◌, Some, sym, refl, ap, ◌∙◌, subst, inl, inr, ⊎_elim}
 use Rattle.std.specs.Option.{option_map}
 use Rattle.std.proofs.lemmas.Bool.{cases_eq}
 use Rattle.run.specs.declared.event.Event.{Event}
 use Rattle.bench.specs.declared.action.Action.TheVariants.{Tie, Settle}
 use Rattle.run.specs.declared.rule.Rule.TheVariants.{Ranges, Steps, Initials, Sources}
-use Rattle.run.specs.Events.{Read, Write, Initial, Memory, Placeless, InRange, SamePlace, Threaded}
+use Rattle.run.specs.Events.{Read, Write, InRange}
 use Rattle.run.specs.Runs.{Run, Stands}
-use Rattle.run.specs.Rules.{Keeps, Kept, Supplies, OnlySettled}
+use Rattle.run.specs.Rules.{Kept, Supplies, OnlySettled}
 use Rattle.bench.specs.Keeps.{Orderly}
 use Rattle.bench.specs.Steps.{put, sourced, final, taken}
 use Rattle.bench.proofs.Stays.{came, stays_there, stands_here, one_event, Tieable, Settleable}

@@ -1,5 +1,5 @@
 -- What every bench keeps, as the tests in its type have it and as the rules say it. Assumes nothing.
-use Rattle.std.proofs.Common.{◌≡◌, ℕ, ◌<◌, Bool, true, false, not, Some, None, Decides, Option, sym, refl, ap, ◌∙◌, subst}
+use Rattle.std.proofs.Common.{◌≡◌, ℕ, ◌<◌, Bool, false, not, Some, None, Decides, Option, sym, refl, ap, ◌∙◌, subst}
 use Rattle.std.proofs.lemmas.Bool.{not-true}
 use Rattle.run.specs.declared.event.Event.{Event}
 use Rattle.bench.specs.declared.action.Action.{Action}
@@ -10,7 +10,7 @@ use Rattle.run.specs.Runs.{Run, Stands, nothing}
 use Rattle.run.specs.Rules.{Keeps, Kept}
 use Rattle.bench.specs.Keeps.{Orderly}
 use Rattle.bench.specs.Steps.{taken}
-use Rattle.run.specs.Tests.{holds, broken, misplaced, faulty}
+use Rattle.run.specs.Tests.{holds, broken, misplaced}
 use Rattle.bench.specs.Tests.{NoneFaulty, NoneMisplaced, refusal}
 use Rattle.run.proofs.Rules.{decided, settled_decided}
 use Rattle.bench.proofs.Stays.{Open, entered_orderly}

@@ -10,8 +10,8 @@ use Rattle.bench.specs.declared.fault.BenchFault.{BenchFault}
 use Rattle.bench.specs.declared.fault.BenchFault.TheVariants.{BadNumber, OutOfRange, Clash, NoPair, Mismatch, NoWrite, OtherSettled}
 use Rattle.run.specs.declared.link.Link.TheVariants as link
 use Rattle.run.specs.declared.rule.Rule.TheVariants.{Steps, Initials}
-use Rattle.run.specs.Events.{Read, Write, InRange, SamePlace}
-use Rattle.bench.specs.Steps.{fresh, put, taken}
+use Rattle.run.specs.Events.{Read, Write, SamePlace}
+use Rattle.bench.specs.Steps.{fresh, put}
 use Rattle.bench.specs.Numbers.{bench_refusal}
 use Rattle.bench.specs.Refusals.{Applies, Answers, Holds, Agree}
 use Rattle.run.specs.Rules.{Keeps}

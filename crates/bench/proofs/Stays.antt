@@ -1,15 +1,13 @@
 -- A step that no refusal forbids keeps an orderly run orderly. Assumes nothing.
-use Rattle.std.proofs.Common.{◌≡◌, ℕ, ◌<◌, true, false, cond, eqb, ◌⊎◌, Some, None, Option, sym, refl, ap, ◌∙◌, subst, inl, inr, ⊎_elim, arith}
-use Rattle.std.specs.Option.{option_map}
+use Rattle.std.proofs.Common.{◌≡◌, ℕ, ◌<◌, true, false, ◌⊎◌, Some, None, Option, sym, refl, ap, ◌∙◌, subst, inl, inr, ⊎_elim, arith}
 use Rattle.std.proofs.lemmas.Bool.{cases_eq, eq-eqb, ne_eqb}
 use Rattle.run.specs.declared.event.Event.{Event}
 use Rattle.bench.specs.declared.action.Entry.{Entry}
 use Rattle.bench.specs.declared.action.Action.{Action}
 use Rattle.bench.specs.declared.action.Action.TheVariants.{Enter, Tie, Settle}
-use Rattle.run.specs.declared.rule.Rule.{Rule}
 use Rattle.run.specs.declared.rule.Rule.TheVariants.{Ranges, Steps, Initials, Sources}
 use Rattle.run.specs.Events.{Read, Write, Initial, InRange, SamePlace, Threaded}
-use Rattle.bench.specs.Steps.{fresh, put, sourced, final, taken}
+use Rattle.bench.specs.Steps.{fresh, put, taken}
 use Rattle.run.specs.Runs.{Run, Stands}
 use Rattle.run.specs.Rules.{Keeps, Kept, Supplies, OnlySettled}
 use Rattle.bench.specs.Keeps.{Orderly}

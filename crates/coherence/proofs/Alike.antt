@@ -1,13 +1,13 @@
 -- Coherence orders and their numbers look at a run only below 32. Assumes nothing.
-use Rattle.std.proofs.Common.{◌≡◌, ℕ, ◌<◌, List, sym}
+use Rattle.std.proofs.Common.{ℕ, List, sym}
 use Rattle.run.specs.Runs.{Run}
 use Rattle.run.proofs.Same.{Alike, stands_same}
 use Rattle.finite.specs.Counts.{Counts}
 use Rattle.finite.proofs.Counts.{count_same}
-use Rattle.coherence.specs.Perms.{LinesUp, Before}
+use Rattle.coherence.specs.Perms.{LinesUp}
 use Rattle.coherence.specs.Coherence.{WriteOf, InitialOf, SettledOf, FreeOf, Order, Coherence}
 use Rattle.coherence.specs.Numbers.{Orders, Number}
-use Rattle.coherence.specs.Laws.{AlikeOrders, OnlyBelow32}
+use Rattle.coherence.specs.Laws.{OnlyBelow32}
 
 module _ (run other : Run) (same : Alike run other) where
   write_same : (l n : ℕ) → WriteOf run l n → WriteOf other l n

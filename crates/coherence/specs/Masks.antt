@@ -1,5 +1,5 @@
 -- Masks: sets of numbers below 32 as bits, and rows of them. Assumes nothing.
-use Rattle.std.specs.Prelude.{◌≡◌, ℕ, zero, suc, ◌/◌, ◌%◌, ◌^◌, ◌<◌, Bool, true, cond, ◌↔◌, List, [], ◌∷◌, length, set, ◌==◌, bit_or, bit_xor, slice_index, slice_set}
+use Rattle.std.specs.Prelude.{◌≡◌, ℕ, zero, suc, ◌/◌, ◌%◌, ◌^◌, ◌<◌, Bool, true, cond, ◌↔◌, List, [], ◌∷◌, length, ◌==◌, bit_or, bit_xor, slice_index, slice_set}
 use Rattle.coherence.specs.Coherence.{Order}
 
 -- the number is in the set that the mask shows

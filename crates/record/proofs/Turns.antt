@@ -1,5 +1,5 @@
 -- One turn of reading a record: what it makes of the piece that begins the rest. Assumes nothing.
-use Rattle.std.proofs.Common.{◌≡◌, ℕ, suc, ◌+◌, ◌-◌, ◌<◌, ◌≤◌, Bool, true, false, cond, ◌&&◌, eqb, leb, List, length, drop, Some, None, Ok, Err, Option, sym, refl, ap, ◌∙◌, arith, length-drop}
+use Rattle.std.proofs.Common.{◌≡◌, ℕ, suc, ◌+◌, ◌-◌, ◌<◌, ◌≤◌, Bool, true, false, cond, eqb, leb, List, length, drop, Some, None, Ok, Err, Option, sym, refl, ap, ◌∙◌, arith, length-drop}
 use Rattle.std.proofs.lemmas.List.{drop-drop}
 use Rattle.std.proofs.lemmas.Bool.{and_parts, leb-true, eq-eqb, ne_eqb}
 use Rattle.bench.specs.declared.action.Action.{Action}
@@ -11,7 +11,7 @@ use Rattle.record.specs.declared.fault.RecordFault.{RecordFault}
 use Rattle.record.specs.declared.fault.RecordFault.TheVariants as fault
 use Rattle.record.specs.declared.piece.Piece.{Piece}
 use Rattle.record.specs.declared.piece.Piece.TheVariants.{Call, End, Wrong}
-use Rattle.record.specs.Reading.{headed, piece_of, onward, unless, misfit, call_fault, reached}
+use Rattle.record.specs.Reading.{headed, piece_of, misfit, call_fault, reached}
 use Rattle.record.proofs.Begins.{entry_begins, tie_begins, settling_begins, end_begins, nothing_begins}
 
 -- a headed field lies within the rest

@@ -3,7 +3,7 @@ use Rattle.std.specs.Prelude.{◌≡◌, ℕ, zero, suc, ◌+◌, ◌<◌, Bool,
 use Rattle.run.specs.declared.event.Event.{Event}
 use Rattle.bench.specs.declared.action.Action.{Action}
 use Rattle.bench.specs.declared.action.Action.TheVariants.{Enter, Tie, Settle}
-use Rattle.run.specs.Runs.{Run, shown}
+use Rattle.run.specs.Runs.{Run}
 use Rattle.record.specs.Format.{spell, spelled, end}
 use Rattle.record.specs.declared.fault.WriteFault.{WriteFault}
 use Rattle.record.specs.declared.stage.Stage.{Stage}

@@ -1,5 +1,5 @@
 -- What a table of 32 answers holds, as a run. Assumes nothing.
-use Rattle.std.proofs.Common.{◌≡◌, ℕ, zero, suc, ◌<◌, true, false, cond, List, [], ◌∷◌, length, get_or, set, replicate, Some, None, Option, refl}
+use Rattle.std.proofs.Common.{◌≡◌, ℕ, zero, suc, get_or, replicate, None, Option, refl}
 use mathlib.Core.Path.{fun_ext}
 use Rattle.run.specs.declared.event.Event.{Event}
 use Rattle.run.specs.Runs.{nothing}

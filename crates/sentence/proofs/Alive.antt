@@ -1,8 +1,8 @@
 -- From every state of the machine some sorts lead to acceptance, so that a state reached begins a text. Assumes nothing.
-use Rattle.std.proofs.Common.{◌≡◌, Bool, true, false, List, [], ◌∷◌, ◌++◌, Some, None, Option, sym, refl, ap, ◌∙◌}
+use Rattle.std.proofs.Common.{◌≡◌, true, false, List, [], ◌∷◌, ◌++◌, Some, refl, ◌∙◌}
 use Rattle.sentence.specs.declared.sort.Sort.{Sort}
 use Rattle.sentence.specs.declared.sort.Sort.TheVariants.{Name, Equals, As, Empty}
-use Rattle.sentence.specs.Trees.{name, empty, Bracket, round, square, close_sort, closure, Tree, atom, inside, Word, binds, groups, checks, plain, Sentence}
+use Rattle.sentence.specs.Trees.{name, empty, close_sort, closure, Tree, atom, inside, binds, groups, checks, plain, Sentence}
 use Rattle.sentence.specs.Machine.{fill, suffix, Wait, nothing, Frame, Binding, single, first, more, Owner, of_binding, of_check, State, begun, ready, let_seen, name_due, equals_due, flag_seen, tilde_seen, label_due, operand, after, starred, also, blank, marked, feed, accept, reads}
 use Rattle.sentence.proofs.Expressions.{Still, starred_still, still_close, read_close}
 

@@ -1,5 +1,5 @@
 -- How the parser's parts join, each against the machine. Assumes nothing.
-use Rattle.std.proofs.Common.{◌≡◌, ℕ, suc, ◌+◌, ◌<◌, ◌≤◌, Bool, true, false, cond, leb, List, [], ◌∷◌, length, drop, Some, None, Ok, Err, Option, Result, sym, refl, ap, ◌∙◌, subst, arith}
+use Rattle.std.proofs.Common.{◌≡◌, ℕ, ◌+◌, ◌<◌, ◌≤◌, Bool, true, false, cond, leb, List, ◌∷◌, length, drop, Some, None, Err, Option, Result, sym, refl, ap, ◌∙◌, subst, arith}
 use Rattle.std.proofs.lemmas.Bool.{leb-true, leb-false}
 use Rattle.sentence.specs.declared.sort.Sort.{Sort}
 use Rattle.sentence.specs.declared.fault.SentenceFault.{SentenceFault}
@@ -7,10 +7,10 @@ use Rattle.sentence.specs.declared.fault.SentenceFault.TheVariants.{Memory, Plac
 use Rattle.sentence.specs.declared.piece.Piece.{Piece}
 use Rattle.sentence.specs.Trees.{Leaf, Bracket, Post, Infix, bar, semicolon, backslash, ampersand, product, Tree, atom, inside, tilde, ended, joined, rank, level, bound, Sentence}
 use Rattle.sentence.specs.Looks.{first_role, role_start, role_complements, role_closes, first_sign, first_post, sign_above}
-use Rattle.sentence.specs.Machine.{leaf, opens, suffix, fill, asked, Wait, nothing, behind, tilded, Frame, Owner, operand, after, outcome}
+use Rattle.sentence.specs.Machine.{leaf, suffix, fill, asked, Wait, nothing, behind, tilded, Frame, Owner, operand, after, outcome}
 use Rattle.sentence.specs.Parsing.{Led, StuckAt, Faulted, Parsed, Halts, Halted, Unprefixed, Opened}
 use Rattle.sentence.proofs.Inserts.{asked_most, rank_most, insert_fill, suffix_fill, suffix_tight}
-use Rattle.sentence.proofs.Looked.{start_here, complements_here, closes_here, sign_here, post_here, stepped, leaf_on, opens_on, starts_not, complements_on, sign_on, post_on, closes_on, closes_not}
+use Rattle.sentence.proofs.Looked.{start_here, closes_here, sign_here, post_here, stepped, leaf_on, opens_on, starts_not, complements_on, sign_on, post_on, closes_on, closes_not}
 
 -- a leaf
 pub led_leaf : (ts : List Sort) (at : ℕ) (l : Leaf) → role_start (first_role (drop at ts)) ≡ Some (leaf l) → Led ts at 7 7 (atom l) (at + 1)

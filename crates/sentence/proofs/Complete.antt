@@ -1,11 +1,10 @@
 -- The machine reads every well grouped sentence off its spelling, so that sorts have one sentence at most. Assumes nothing.
-use Rattle.std.proofs.Common.{◌≡◌, Bool, true, false, List, [], ◌∷◌, ◌++◌, Some, None, Option, sym, refl, ap, ◌∙◌, append_assoc, append-nil, arith}
+use Rattle.std.proofs.Common.{◌≡◌, Bool, true, false, List, [], ◌∷◌, ◌++◌, Some, sym, refl, ap, ◌∙◌, append_assoc, append-nil, arith}
 use Rattle.sentence.specs.declared.sort.Sort.{Sort}
-use Rattle.sentence.specs.declared.sort.Sort.TheVariants.{And, Name, Equals}
 use Rattle.sentence.specs.Trees.{Tree, spell, Well, Word, acyclic, irreflexive, empty, Mark, plain, labelled, flagged, Statement, binds, groups, checks, Sentence, mark_front, mark_back, negation, word_sort, spell_more, spell_statement, spell_statements, spell_text, AllWell, WellStatement, WellStatements}
 use Rattle.sentence.specs.Texts.{Writes}
 use Rattle.sentence.specs.Laws.{OneTree}
-use Rattle.sentence.specs.Machine.{Speech, titles, lets, recs, ands, flags, labels, equals, words, Role, starts, goes, complements, speaks, role, fill, nothing, Binding, single, first, more, Owner, of_binding, of_check, State, begun, ready, tilde_seen, flag_seen, operand, after, also, blank, onto, opening, from_ready, feed, accept, reads}
+use Rattle.sentence.specs.Machine.{Speech, titles, lets, recs, ands, flags, labels, equals, words, Role, starts, goes, complements, speaks, role, fill, nothing, Binding, single, first, more, of_binding, of_check, begun, ready, tilde_seen, flag_seen, operand, after, also, blank, onto, opening, feed, accept, reads}
 use Rattle.sentence.proofs.Expressions.{Still, Opens, OpensRole, OpensSpeech, opens_still, role_word, step, read_tree, leave}
 
 -- what follows a binding in its group begins no atom

@@ -1,9 +1,9 @@
 -- The machine reads every well grouped expression off its spelling. Assumes nothing.
-use Rattle.std.proofs.Common.{◌≡◌, ℕ, ◌≤◌, Bool, true, false, List, [], ◌∷◌, ◌++◌, Some, None, Option, sym, refl, ap, ◌∙◌, append_assoc, append-nil, arith}
+use Rattle.std.proofs.Common.{◌≡◌, ◌≤◌, List, [], ◌∷◌, ◌++◌, Some, refl, ap, ◌∙◌, append_assoc, arith}
 use Rattle.sentence.specs.declared.sort.Sort.{Sort}
-use Rattle.sentence.specs.declared.sort.Sort.TheVariants.{Tilde, And, Name, Equals, Star}
-use Rattle.sentence.specs.Trees.{Leaf, name, universe, no_pairs, no_events, Bracket, round, square, Post, plus, closure, question, inverse, Infix, bar, semicolon, backslash, ampersand, product, Tree, atom, inside, tilde, ended, joined, leaf_sort, open_sort, close_sort, post_sort, infix_sort, spell, rank, level, bound, Well, Word, acyclic, irreflexive, empty, Mark, plain, labelled, flagged, Statement, binds, groups, checks, Sentence, mark_back, word_sort, spell_more, spell_statement, spell_statements, spell_text, AllWell, WellStatement, WellStatements}
-use Rattle.sentence.specs.Machine.{Start, leaf, opens, Go, closes, joins, ends, Speech, titles, lets, recs, ands, flags, labels, equals, words, Role, starts, goes, complements, speaks, role, insert, suffix, fill, asked, Wait, nothing, behind, tilded, Frame, Binding, single, first, more, Owner, of_binding, of_check, State, begun, ready, operand, after, starred, also, blank, onto, finish, leaving, from_ready, spoken, opening, marked, feed, accept, reads}
+use Rattle.sentence.specs.declared.sort.Sort.TheVariants.{Tilde}
+use Rattle.sentence.specs.Trees.{Leaf, name, universe, no_pairs, no_events, Bracket, round, square, Post, plus, closure, question, inverse, Infix, bar, semicolon, backslash, ampersand, product, Tree, atom, inside, tilde, ended, joined, leaf_sort, open_sort, close_sort, post_sort, infix_sort, spell, level, bound, Well, Word, acyclic, irreflexive, empty, Statement, Sentence, word_sort}
+use Rattle.sentence.specs.Machine.{leaf, opens, joins, Speech, titles, lets, recs, ands, flags, labels, equals, words, Role, starts, goes, complements, speaks, role, suffix, fill, asked, Wait, nothing, behind, tilded, Frame, Owner, State, ready, operand, after, starred, also, onto, finish, leaving, from_ready, spoken, opening, feed, accept, reads}
 use Rattle.sentence.proofs.Inserts.{asked_most, rank_most, insert_fill, suffix_fill, suffix_tight}
 
 -- the sorts do not begin an atom

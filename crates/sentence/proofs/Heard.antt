@@ -1,10 +1,10 @@
 -- One look at what comes first among statements, and what the machine makes of it. Assumes nothing.
-use Rattle.std.proofs.Common.{◌≡◌, ℕ, suc, ◌+◌, ◌<◌, ◌≤◌, Bool, true, false, cond, ◌⊎◌, List, [], ◌∷◌, length, drop, Some, None, Ok, Err, Option, Result, sym, refl, ap, ◌∙◌, inl, inr, arith, drop-cons}
+use Rattle.std.proofs.Common.{◌≡◌, ℕ, suc, ◌+◌, ◌<◌, Bool, true, false, cond, List, [], ◌∷◌, length, drop, Some, None, Err, Option, Result, sym, refl, ap, ◌∙◌, drop-cons}
 use Rattle.sentence.specs.declared.sort.Sort.{Sort}
 use Rattle.sentence.specs.Trees.{name, universe, no_pairs, no_events, closure, Infix, bar, semicolon, backslash, ampersand, product, Tree, Word, Statement, Sentence}
-use Rattle.sentence.specs.Looks.{first_role, role_starts, role_complements, sign_told, role_sign, post_told, role_post, behind_first, first_sign, first_post, role_titles, speech_titles, role_recs, speech_recs, role_ands, speech_ands, role_labels, speech_labels, role_equals, speech_equals, role_word, speech_word, role_speech, role_name}
-use Rattle.sentence.specs.Machine.{leaf, opens, closes, joins, ends, Speech, titles, lets, recs, ands, flags, labels, equals, words, Role, starts, goes, complements, speaks, role, nothing, Binding, single, first, Owner, of_binding, of_check, State, begun, ready, let_seen, name_due, equals_due, flag_seen, tilde_seen, label_due, operand, after, also, blank, onto, finish, grouped, labelling, on_name, on_speech, on_equals, on_word, opening, from_ready, feed, accept, told_end, told_on, outcome}
-use Rattle.sentence.proofs.Looked.{here, stepped, no_some, no_true}
+use Rattle.sentence.specs.Looks.{first_role, role_starts, role_complements, sign_told, role_sign, post_told, role_post, behind_first, first_sign, first_post, role_titles, role_recs, role_ands, speech_ands, role_labels, speech_labels, role_equals, role_word, speech_word, role_speech, role_name}
+use Rattle.sentence.specs.Machine.{leaf, opens, closes, joins, ends, Speech, titles, lets, recs, ands, flags, labels, equals, words, Role, starts, goes, complements, speaks, role, nothing, Binding, single, first, Owner, of_binding, of_check, State, begun, ready, let_seen, name_due, equals_due, flag_seen, tilde_seen, label_due, operand, after, also, blank, onto, finish, grouped, labelling, on_name, on_word, opening, from_ready, feed, accept, told_end, told_on, outcome}
+use Rattle.sentence.proofs.Looked.{stepped, no_some, no_true}
 
 -- what the machine makes of the first role
 abbrev pub look : State → ℕ → List Sort → Option Role → Result Sentence ℕ

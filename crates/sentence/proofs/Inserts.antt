@@ -1,9 +1,7 @@
 -- Insertion into a tree: where it goes, how it is written, and that it keeps the grouping. Assumes nothing.
-use Rattle.std.proofs.Common.{◌≡◌, ℕ, suc, ◌<◌, ◌≤◌, Bool, true, false, cond, leb, List, [], ◌∷◌, ◌++◌, sym, refl, ap, ◌∙◌, append_assoc, arith}
+use Rattle.std.proofs.Common.{◌≡◌, ℕ, ◌<◌, ◌≤◌, Bool, true, false, cond, leb, sym, refl, ap, ◌∙◌, arith}
 use Rattle.std.proofs.lemmas.Bool.{leb-true, leb-false, le-leb, lt-leb}
-use Rattle.sentence.specs.declared.sort.Sort.{Sort}
-use Rattle.sentence.specs.declared.sort.Sort.TheVariants.{Tilde}
-use Rattle.sentence.specs.Trees.{Infix, bar, semicolon, backslash, ampersand, product, Post, Bracket, Tree, atom, inside, tilde, ended, joined, spell, infix_sort, post_sort, rank, level, bound, Well}
+use Rattle.sentence.specs.Trees.{Infix, bar, semicolon, backslash, ampersand, product, Post, Tree, atom, inside, tilde, ended, joined, rank, level, bound}
 use Rattle.sentence.specs.Machine.{insert, suffix, fill, asked, Wait, nothing, behind, tilded}
 
 -- infix signs bind looser than all else; a right operand holds together tighter than its sign

@@ -1,10 +1,10 @@
 -- One look at what comes first, and what the machine makes of it. Assumes nothing.
-use Rattle.std.proofs.Common.{◌≡◌, ℕ, suc, ◌+◌, ◌<◌, ◌≤◌, Bool, true, false, cond, ◌⊎◌, List, [], ◌∷◌, length, drop, Some, None, Ok, Err, Option, Result, sym, refl, ap, ◌∙◌, subst, inl, inr, add-one, arith}
+use Rattle.std.proofs.Common.{◌≡◌, ℕ, suc, ◌+◌, ◌<◌, ◌≤◌, Bool, true, false, cond, ◌⊎◌, List, [], ◌∷◌, length, drop, Some, None, Err, Result, sym, refl, ap, ◌∙◌, inl, inr, add-one, arith}
 use Rattle.std.proofs.lemmas.Bool.{cases_lt}
 use Rattle.sentence.specs.declared.sort.Sort.{Sort}
-use Rattle.sentence.specs.Trees.{Leaf, Bracket, round, square, Post, plus, closure, question, inverse, Infix, bar, semicolon, backslash, ampersand, product, Tree, atom, inside, Sentence}
+use Rattle.sentence.specs.Trees.{Leaf, Bracket, round, square, Post, closure, Infix, bar, semicolon, backslash, ampersand, product, Tree, atom, inside, Sentence}
 use Rattle.sentence.specs.Looks.{first_role, role_start, role_starts, role_complements, same_bracket, role_closes, sign_told, role_sign, post_told, role_post, behind_first, first_sign, first_post}
-use Rattle.sentence.specs.Machine.{Start, leaf, opens, Go, closes, joins, ends, Role, starts, goes, complements, speaks, role, suffix, fill, Wait, nothing, behind, tilded, Frame, Owner, State, operand, after, starred, starting, going, feed, accept, told_on, outcome}
+use Rattle.sentence.specs.Machine.{Start, leaf, opens, closes, joins, ends, Role, starts, goes, complements, speaks, role, suffix, fill, Wait, nothing, behind, tilded, Frame, Owner, State, operand, after, starred, starting, going, feed, accept, told_on, outcome}
 use Rattle.sentence.proofs.Looking.{first_none, behind_drop}
 
 -- a clash of two values of an option

@@ -1,5 +1,5 @@
 -- How the parts of statements join, each against the machine. Assumes nothing.
-use Rattle.std.proofs.Common.{◌≡◌, ℕ, suc, ◌+◌, ◌<◌, ◌≤◌, Bool, true, false, List, [], ◌∷◌, ◌++◌, length, drop, Some, None, Ok, Err, Option, Result, sym, refl, ap, ◌∙◌, subst, arith}
+use Rattle.std.proofs.Common.{◌≡◌, ℕ, suc, ◌+◌, ◌<◌, ◌≤◌, Bool, true, false, List, [], ◌∷◌, ◌++◌, length, drop, Some, None, Ok, Err, Result, sym, refl, ap, ◌∙◌, subst, arith}
 use Rattle.sentence.specs.declared.sort.Sort.{Sort}
 use Rattle.sentence.specs.declared.sort.Sort.TheVariants.{Name}
 use Rattle.sentence.specs.declared.fault.SentenceFault.{SentenceFault}
@@ -8,9 +8,9 @@ use Rattle.sentence.specs.declared.statement.Binding as binding
 use Rattle.sentence.specs.declared.statement.Statement as statement
 use Rattle.sentence.specs.declared.part.Said.{Said}
 use Rattle.sentence.specs.declared.part.Bound.{Bound}
-use Rattle.sentence.specs.Trees.{Tree, Word, Mark, plain, Statement, binds, groups, checks, Sentence}
+use Rattle.sentence.specs.Trees.{Tree, Word, Mark, plain, binds, groups, checks, Sentence}
 use Rattle.sentence.specs.Looks.{first_role, role_complements, role_recs, role_ands, role_labels, role_equals, role_word, role_speech, role_name}
-use Rattle.sentence.specs.Machine.{Speech, titles, lets, recs, ands, flags, labels, equals, words, fill, nothing, Binding, single, first, more, Owner, of_binding, of_check, State, begun, ready, let_seen, name_due, equals_due, flag_seen, tilde_seen, label_due, operand, after, also, finish, grouped, labelling, marked, opening, told_on, feed, accept, outcome}
+use Rattle.sentence.specs.Machine.{Speech, lets, flags, words, fill, nothing, Binding, single, first, more, Owner, of_binding, of_check, State, ready, let_seen, name_due, equals_due, flag_seen, tilde_seen, label_due, operand, after, also, finish, grouped, labelling, marked, opening, told_on, feed, accept, outcome}
 use Rattle.sentence.specs.Parsing.{Led, Faulted, Halts}
 use Rattle.sentence.specs.Statements.{trees_of, statement_of, statements_of, Goes_on, GetsStuck, Stated, GoesBound, Unbound, Binds}
 use Rattle.sentence.specs.Exprs.{tree_of}

@@ -1,14 +1,14 @@
 -- A text is read statement by statement. Assumes nothing.
-use Rattle.std.proofs.Common.{◌≡◌, ℕ, ◌+◌, ◌<◌, ◌≤◌, Bool, true, false, cond, List, [], ◌∷◌, ◌++◌, length, drop, Ok, Err, Result, sym, refl, ap, ◌∙◌, subst, arith, drop_of_length-le}
+use Rattle.std.proofs.Common.{◌≡◌, ℕ, ◌≤◌, Bool, true, false, cond, List, [], ◌∷◌, ◌++◌, length, drop, Ok, Err, Result, sym, ap, ◌∙◌, subst, arith, drop_of_length-le}
 use Rattle.sentence.specs.declared.sort.Sort.{Sort}
 use Rattle.sentence.specs.declared.fault.SentenceFault.{SentenceFault}
 use Rattle.sentence.specs.declared.fault.SentenceFault.TheVariants.{Memory, Place}
 use Rattle.sentence.specs.declared.statement.Statement as statement
 use Rattle.sentence.specs.declared.statement.Sentence as sentence
-use Rattle.sentence.specs.Trees.{Statement, Sentence}
-use Rattle.sentence.specs.Texts.{Writes, RefusedAt}
+use Rattle.sentence.specs.Trees.{Sentence}
+use Rattle.sentence.specs.Texts.{Writes}
 use Rattle.sentence.specs.Looks.{first_role, role_titles}
-use Rattle.sentence.specs.Machine.{State, begun, ready, also, blank, accept, outcome}
+use Rattle.sentence.specs.Machine.{begun, ready, blank, accept, outcome}
 use Rattle.sentence.specs.Statements.{Goes_on, GetsStuck, statement_of, statements_of}
 use Rattle.sentence.specs.Laws.{Tells}
 use Rattle.sentence.specs.Reading.{ReadAs}

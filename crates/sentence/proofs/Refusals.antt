@@ -1,6 +1,5 @@
 -- Any sorts are a text or refused at one place, and the machine tells which. Assumes nothing.
-use Rattle.std.proofs.Common.{◌≡◌, ℕ, zero, suc, ◌+◌, ◌<◌, ◌≤◌, ◌⊎◌, List, [], ◌∷◌, ◌++◌, length, take, drop, Some, None, Ok, Err, Option, Result, sym, refl, ap, ◌∙◌, subst, inl, inr, append_assoc, append-nil, zero-add, add-one, arith, take-append-drop, take-take}
-use lib.Seq.{take-length}
+use Rattle.std.proofs.Common.{◌≡◌, ℕ, suc, ◌+◌, ◌<◌, ◌≤◌, ◌⊎◌, List, [], ◌∷◌, ◌++◌, length, take, drop, Some, None, Ok, Err, Option, Result, sym, refl, ap, ◌∙◌, subst, inl, inr, append_assoc, add-one, arith, take-append-drop, take-take}
 use Rattle.std.proofs.lemmas.Bool.{cases_lt}
 use Rattle.sentence.specs.declared.sort.Sort.{Sort}
 use Rattle.sentence.specs.Trees.{Sentence}
@@ -9,7 +8,7 @@ use Rattle.sentence.specs.Machine.{State, begun, role, onto, feed, runs, accept,
 use Rattle.sentence.specs.Laws.{TextOrRefused, NotBoth, OnePlace, Tells, MachineTold, MachineTells, MachineBegins}
 use Rattle.sentence.proofs.Complete.{read_written, one_tree}
 use Rattle.sentence.proofs.Sound.{reads_append, reads_written}
-use Rattle.sentence.proofs.Alive.{Alive, alive}
+use Rattle.sentence.proofs.Alive.{alive}
 
 -- what the machine can take begins a text
 pub runs_begins : (ts : List Sort) (c : State) → runs begun ts ≡ Some c → Begins ts

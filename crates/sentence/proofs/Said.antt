@@ -1,8 +1,8 @@
 -- What a state of the machine stands for: the sorts taken so far, and that its trees are well grouped. Assumes nothing.
-use Rattle.std.proofs.Common.{◌≡◌, ℕ, ◌<◌, ◌≤◌, Bool, true, false, leb, List, [], ◌∷◌, ◌++◌, Some, None, Option, sym, refl, ap, ◌∙◌, append_assoc, append-nil, arith}
+use Rattle.std.proofs.Common.{◌≡◌, ℕ, ◌≤◌, Bool, true, false, leb, List, [], ◌∷◌, ◌++◌, Some, None, Option, sym, refl, ap, ◌∙◌, append_assoc, arith}
 use Rattle.sentence.specs.declared.sort.Sort.{Sort}
 use Rattle.sentence.specs.declared.sort.Sort.TheVariants.{Let, Rec, Name, Equals, And, Flag, As, Tilde, Star}
-use Rattle.sentence.specs.Trees.{Infix, Post, Tree, atom, inside, tilde, ended, joined, open_sort, infix_sort, post_sort, spell, rank, level, bound, Well, Word, word_sort, negation, Sentence, spell_binding, spell_more, spell_text, AllWell, WellStatements}
+use Rattle.sentence.specs.Trees.{Infix, Post, Tree, atom, inside, tilde, ended, joined, open_sort, infix_sort, post_sort, spell, rank, level, bound, Well, word_sort, negation, Sentence, spell_binding, spell_more, spell_text, AllWell, WellStatements}
 use Rattle.sentence.specs.Machine.{insert, suffix, fill, asked, Wait, nothing, behind, tilded, Frame, Binding, single, first, more, Owner, of_binding, of_check, State, begun, ready, let_seen, name_due, equals_due, flag_seen, tilde_seen, label_due, operand, after, starred}
 use Rattle.sentence.proofs.Inserts.{rank_most, bound_within, insert_tight, insert_loose, order}
 

@@ -2,11 +2,11 @@
 use Rattle.std.proofs.Common.{◌≡◌, ℕ, ◌≤◌, Bool, true, false, List, [], ◌∷◌, ◌++◌, Some, None, Option, sym, refl, ap, ◌∙◌, subst, append_assoc, append-nil, arith}
 use Rattle.sentence.specs.declared.sort.Sort.{Sort}
 use Rattle.sentence.specs.declared.sort.Sort.TheVariants.{Name, Title, Let, Rec, And, Acyclic, Irreflexive, Empty, Flag, As, Universe, NoPairs, NoEvents, Inverse, Open, Close, OpenSquare, CloseSquare, Bar, Semicolon, Backslash, Ampersand, Star, Tilde, Plus, Question, Equals}
-use Rattle.sentence.specs.Trees.{Leaf, name, universe, no_pairs, no_events, Bracket, round, square, Post, plus, closure, question, inverse, Infix, bar, semicolon, backslash, ampersand, product, Tree, atom, inside, tilde, ended, joined, leaf_sort, open_sort, close_sort, post_sort, infix_sort, spell, rank, level, bound, Well, Word, acyclic, irreflexive, empty, Mark, plain, labelled, flagged, Statement, binds, groups, checks, Sentence, heading, mark_back, word_sort, spell_binding, spell_more, spell_statement, spell_statements, spell_text, AllWell, WellStatement, WellStatements}
+use Rattle.sentence.specs.Trees.{name, universe, no_pairs, no_events, Bracket, round, square, closure, Infix, bar, semicolon, backslash, ampersand, product, Tree, atom, inside, leaf_sort, open_sort, close_sort, post_sort, infix_sort, spell, level, Well, Word, labelled, flagged, Statement, checks, Sentence, heading, word_sort, spell_binding, spell_more, spell_statement, spell_statements, spell_text, AllWell, WellStatement, WellStatements}
 use Rattle.sentence.specs.Texts.{Writes}
-use Rattle.sentence.specs.Machine.{Start, leaf, opens, Go, closes, joins, ends, Speech, titles, lets, recs, ands, flags, labels, equals, words, Role, starts, goes, complements, speaks, role, suffix, fill, asked, Wait, nothing, behind, tilded, Frame, Binding, single, first, more, Owner, of_binding, of_check, State, begun, ready, let_seen, name_due, equals_due, flag_seen, tilde_seen, label_due, operand, after, starred, also, blank, onto, finish, grouped, marked, on_name, on_speech, on_equals, on_word, on_rec, opening, from_ready, from_begun, from_let, from_flag, leaving, labelling, spoken, starting, shut, closing, joining, going, from_operand, whole, negating, from_after, from_starred, feed, runs, ending, accept, reads}
+use Rattle.sentence.specs.Machine.{Start, leaf, opens, Go, closes, joins, ends, Speech, titles, lets, recs, ands, flags, labels, equals, words, Role, starts, goes, complements, speaks, role, suffix, fill, asked, Wait, nothing, behind, Frame, single, first, more, Owner, of_binding, of_check, State, begun, ready, let_seen, name_due, equals_due, flag_seen, tilde_seen, label_due, operand, after, starred, also, blank, onto, finish, grouped, marked, on_name, on_speech, on_equals, on_word, on_rec, from_ready, from_begun, from_let, from_flag, leaving, labelling, spoken, starting, shut, closing, joining, going, from_operand, whole, negating, from_after, from_starred, feed, runs, ending, accept, reads}
 use Rattle.sentence.proofs.Inserts.{asked_most}
-use Rattle.sentence.proofs.Said.{spell_wait, spell_fill, spell_suffix, well_fill, well_suffix, WellWait, WellFrames, WellOwner, spell_owner, spell_frames, spell_before, flagging, outside, said, Around, Sane, Stands}
+use Rattle.sentence.proofs.Said.{spell_wait, spell_fill, spell_suffix, well_fill, well_suffix, WellWait, WellOwner, spell_owner, spell_before, outside, said, Around, Sane, Stands}
 
 -- the sort of a role
 abbrev pub start_sort : Start → Sort

@@ -1,9 +1,9 @@
 -- The star rule: what follows a star says what it is. Assumes nothing.
-use Rattle.std.proofs.Common.{◌≡◌, ℕ, ◌≤◌, Bool, true, false, ◌⊎◌, List, [], ◌∷◌, ◌++◌, map, sym, refl, ap, ◌∙◌, subst, inl, inr, append_assoc, arith}
+use Rattle.std.proofs.Common.{◌≡◌, ◌≤◌, Bool, true, false, List, [], ◌∷◌, ◌++◌, map, sym, refl, ap, ◌∙◌, subst, inl, inr, append_assoc, arith}
 use Rattle.sentence.specs.declared.sort.Sort.{Sort}
 use Rattle.sentence.specs.declared.sort.Sort.TheVariants.{Name, Let, Rec, And, Flag, As, Title, Star, Tilde, Equals}
-use Rattle.sentence.specs.Trees.{Leaf, name, universe, no_pairs, no_events, Bracket, round, square, leaf_sort, open_sort, close_sort, post_sort, infix_sort, word_sort, mark_front, mark_back, negation, heading, Post, plus, closure, question, inverse, Infix, bar, semicolon, backslash, ampersand, product, Tree, atom, inside, tilde, ended, joined, spell, level, bound, Well, Word, acyclic, irreflexive, empty, Mark, plain, labelled, flagged, Statement, binds, groups, checks, Sentence, spell_more, spell_statement, spell_statements, spell_text, AllWell, WellStatement, WellStatements}
-use Rattle.sentence.specs.Stars.{Sign, of_product, of_closure, other, sign_sort, post_sign, infix_sign, signs, signs_more, signs_statement, signs_statements, signs_text, atom_sorts, OneOf, AtomFirst, ToldBy}
+use Rattle.sentence.specs.Trees.{Leaf, name, universe, no_pairs, no_events, Bracket, round, square, leaf_sort, open_sort, close_sort, post_sort, infix_sort, word_sort, mark_front, mark_back, negation, heading, Post, plus, closure, question, inverse, Infix, bar, semicolon, backslash, ampersand, product, Tree, atom, inside, tilde, ended, joined, spell, level, bound, Well, Word, acyclic, irreflexive, empty, Mark, plain, labelled, flagged, Statement, binds, groups, checks, Sentence, spell_more, spell_statement, spell_statements, AllWell, WellStatement, WellStatements}
+use Rattle.sentence.specs.Stars.{Sign, other, sign_sort, post_sign, infix_sign, signs, signs_more, signs_statement, signs_statements, signs_text, atom_sorts, OneOf, AtomFirst, ToldBy}
 use Rattle.sentence.specs.Machine.{Role, starts, goes, closes, joins, ends, complements, speaks, role}
 use Rattle.sentence.specs.Laws.{SameSorts, StarRule}
 use Rattle.sentence.proofs.Inserts.{rank_most}

@@ -1,7 +1,7 @@
 -- Expressions of the program as trees. Assumes nothing.
 use Rattle.std.specs.Prelude.{◌≡◌, Ok, Err, Result}
 use Rattle.sentence.specs.declared.fault.SentenceFault.{SentenceFault}
-use Rattle.sentence.specs.declared.fault.SentenceFault.TheVariants.{Memory, Place}
+use Rattle.sentence.specs.declared.fault.SentenceFault.TheVariants.{Memory}
 use Rattle.sentence.specs.declared.tree.Expr.{Expr}
 use Rattle.sentence.specs.declared.tree.Expr.TheVariants.{Atom, Inside', Tilde', Ended', Joined'}
 use Rattle.sentence.specs.Trees.{Tree, atom, inside, tilde, ended, joined}

@@ -2,7 +2,7 @@
 use Rattle.std.specs.Prelude.{ℕ, Bool, true, false, cond, List, [], ◌∷◌, Some, None, Option, nat_le}
 use Rattle.sentence.specs.declared.sort.Sort.{Sort}
 use Rattle.sentence.specs.Trees.{Leaf, name, universe, no_pairs, no_events, Word, Bracket, round, square, Post, closure, Infix, bar, semicolon, backslash, ampersand, product, rank}
-use Rattle.sentence.specs.Roles.{Start, leaf, opens, Go, closes, joins, ends, Speech, titles, lets, recs, ands, flags, labels, equals, words, Role, starts, goes, complements, speaks, role}
+use Rattle.sentence.specs.Roles.{Start, leaf, opens, closes, joins, ends, Speech, titles, lets, recs, ands, flags, labels, equals, words, Role, starts, goes, complements, speaks, role}
 
 -- the role of the first sort
 abbrev pub first_role : List Sort → Option Role

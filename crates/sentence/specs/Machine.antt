@@ -1,8 +1,8 @@
 -- A machine that takes the sorts of a text one by one and carries the trees read so far; inner, proofs/ ties it to the grammar. Assumes nothing.
-use Rattle.std.specs.Prelude.{◌≡◌, ℕ, suc, Bool, true, false, cond, List, [], ◌∷◌, ◌++◌, Some, None, Ok, Err, Option, Result, nat_le}
+use Rattle.std.specs.Prelude.{ℕ, suc, Bool, true, false, cond, List, [], ◌∷◌, ◌++◌, Some, None, Ok, Err, Option, Result, nat_le}
 use Rattle.sentence.specs.declared.sort.Sort.{Sort}
 pub use Rattle.sentence.specs.Roles.{Start, leaf, opens, Go, closes, joins, ends, Speech, titles, lets, recs, ands, flags, labels, equals, words, Role, starts, goes, complements, speaks, role}
-use Rattle.sentence.specs.Trees.{Leaf, name, universe, no_pairs, no_events, Bracket, round, square, Post, plus, closure, question, inverse, Infix, bar, semicolon, backslash, ampersand, product, Tree, atom, inside, tilde, ended, joined, rank, bound, Word, acyclic, irreflexive, empty, Mark, plain, labelled, flagged, Statement, binds, groups, checks, Sentence}
+use Rattle.sentence.specs.Trees.{name, universe, no_pairs, no_events, Bracket, round, square, Post, closure, Infix, bar, semicolon, backslash, ampersand, product, Tree, atom, inside, tilde, ended, joined, rank, bound, Word, Mark, plain, labelled, flagged, Statement, binds, groups, checks, Sentence}
 
 -- the tree for an expression, an infix sign, and a tighter operand
 unfoldable pub insert : Tree → Infix → Tree → Tree

@@ -1,5 +1,5 @@
 -- What the parser of expressions promises, against the machine; inner. Assumes nothing.
-use Rattle.std.specs.Prelude.{◌≡◌, ℕ, ◌<◌, ◌≤◌, Bool, false, List, length, drop, Some, None, Ok, Err, Option, Result}
+use Rattle.std.specs.Prelude.{◌≡◌, ℕ, ◌<◌, ◌≤◌, false, List, length, drop, Some, None, Ok, Err, Result}
 use Rattle.sentence.specs.declared.sort.Sort.{Sort}
 use Rattle.sentence.specs.declared.fault.SentenceFault.{SentenceFault}
 use Rattle.sentence.specs.declared.fault.SentenceFault.TheVariants.{Memory, Place}

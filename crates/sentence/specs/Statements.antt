@@ -1,5 +1,5 @@
 -- Statements of the program as those of the grammar, and what their parser promises against the machine; inner. Assumes nothing.
-use Rattle.std.specs.Prelude.{◌≡◌, ℕ, ◌<◌, ◌≤◌, Bool, true, false, List, [], ◌∷◌, ◌++◌, length, drop, Ok, Err, vec_items, Result}
+use Rattle.std.specs.Prelude.{◌≡◌, ℕ, ◌<◌, ◌≤◌, List, [], ◌∷◌, length, drop, Ok, Err, vec_items, Result}
 use Rattle.sentence.specs.declared.sort.Sort.{Sort}
 use Rattle.sentence.specs.declared.fault.SentenceFault.{SentenceFault}
 use Rattle.sentence.specs.declared.fault.SentenceFault.TheVariants.{Memory, Place}

@@ -1,9 +1,8 @@
 -- Events with a mark, as the code tests them and as they stand in the run. Assumes nothing.
-use Rattle.std.proofs.Common.{◌≡◌, ℕ, ◌<◌, Bool, true, sym, ap, ◌∙◌}
+use Rattle.std.proofs.Common.{◌≡◌, ℕ, Bool, true, sym, ap, ◌∙◌}
 use Rattle.finite.specs.Counts.{Counts, Below, count_below}
 use Rattle.finite.proofs.Counts.{count_same, count_done}
-use Rattle.run.specs.declared.event.Event.{Event}
-use Rattle.run.specs.Runs.{Run, Stands, shown}
+use Rattle.run.specs.Runs.{Run, shown}
 use Rattle.run.specs.Tests.{holds}
 use Rattle.run.proofs.Rules.{holds_decided, flag_decided}
 use Rattle.run.proofs.Same.{Alike, stands_same, shown_alike}

@@ -1,5 +1,5 @@
 -- What a record holds, in numbers and as text. Assumes nothing.
-use Rattle.std.specs.Prelude.{◌≡◌, ℕ, Bool, true, false, ◌⊎◌, List, ◌++◌, is_some, Some, None, codes, decimal, Option}
+use Rattle.std.specs.Prelude.{◌≡◌, ℕ, Bool, true, ◌⊎◌, List, ◌++◌, is_some, Some, None, codes, decimal, Option}
 use Rattle.finite.specs.Counts.{Counts}
 use Rattle.refusal.specs.declared.Refusal.{Refusal}
 use Rattle.run.specs.declared.event.Event.{Event}

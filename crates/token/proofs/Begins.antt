@@ -7,7 +7,7 @@ use Rattle.std.proofs.lemmas.Bool.{eqb-true, eqb-false, ne_eqb, and_parts, cond_
 use Rattle.token.specs.Classes.{Blank, Letter, Goes_on, class}
 use Rattle.token.specs.Tokens.{Reserved, let_word, rec_word, and_word, acyclic_word, irreflexive_word, empty_word, flag_word, as_word, Symbol, universe, no_pairs, no_events, inverse, open_round, close_round, open_square, close_square, bar, semicolon, backslash, ampersand, star, tilde, plus, question, equals, Word, name, title, key, sign, keyword, symbol, spelling}
 use Rattle.token.specs.Lexing.{Item, blank, comment, token, spell, Every, Closes, Formed, Stops, Apart, Proper}
-use Rattle.token.specs.Items.{goes_on, run, quote_from, end_from, word_of, titled, commented, when, single, opened, signed, begun, item_of}
+use Rattle.token.specs.Items.{run, quote_from, end_from, word_of, titled, commented, when, single, opened, signed, begun, item_of}
 use Rattle.token.proofs.Never.{no_way, stays_false}
 use Rattle.token.proofs.Classes.{classified}
 use Rattle.token.proofs.Items.{run_counts, Run, run_splits, quote_found, Quoted, quote_splits, end_found, Ended, end_splits}

@@ -1,8 +1,8 @@
-use Rattle.std.proofs.Common.{◌≡◌, sym, ap, ◌∙◌, arith, rules}
+use Rattle.std.proofs.Common.{ap, ◌∙◌, arith, rules}
 use Rattle.bench.specs.Benches.{bench_run}
 use Rattle.bench.specs.Tests.{refusal, stepped}
 use Rattle.record.specs.Reading.{piece_of}
-use Rattle.record.proofs.Turns.{replaying_none, replaying_step, replayed_refused, replayed_end, replayed_wrong, replayed_over, field_within, refused_for, not_refused}
+use Rattle.record.proofs.Turns.{replaying_step, replayed_refused, replayed_end, replayed_wrong, replayed_over, field_within, refused_for, not_refused}
 use Rattle.record.proofs.read.replay.Goals as goal
 
 pub returns-in-Err : goal.returns-in-Err

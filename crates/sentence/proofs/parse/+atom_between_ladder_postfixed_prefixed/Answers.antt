@@ -1,12 +1,12 @@
-use Rattle.std.proofs.Common.{◌≡◌, ◌+◌, ◌<◌, length, drop, Some, None, sym, ap, ◌∙◌, arith, rules}
+use Rattle.std.proofs.Common.{◌+◌, ◌<◌, length, drop, Some, sym, ap, ◌∙◌, arith, rules}
 use Rattle.std.proofs.lemmas.Result.{err_from_is_err_and}
-use Rattle.sentence.specs.Roles.{leaf, opens}
+use Rattle.sentence.specs.Roles.{opens}
 use Rattle.sentence.specs.Looks.{first_sign, sign_above}
 use Rattle.sentence.specs.Exprs.{tree_of}
 use Rattle.sentence.specs.Seats.{seats_of}
 use Rattle.sentence.proofs.Seatings.{seated_leaf, seated_inside, seated_tilde, seated_ended, seated_joined, seated_fault}
 use Rattle.sentence.proofs.Looked.{start_here, complements_here, post_here}
-use Rattle.sentence.proofs.Climbs.{led_leaf, stuck_start, led_prefix, fault_prefix, led_between, fault_between, stuck_between, led_post, halts_post, climbing_first, climbing_more, sign_within, fault_right, fault_first, climbing_done, handed_on, handed_halts, found}
+use Rattle.sentence.proofs.Climbs.{led_leaf, stuck_start, led_prefix, fault_prefix, led_between, fault_between, stuck_between, led_post, halts_post, climbing_first, climbing_more, sign_within, fault_right, climbing_done, handed_on, handed_halts, found}
 use Rattle.sentence.proofs.parse.+atom_between_ladder_postfixed_prefixed.Goals as goal
 
 pub atom-returns-in_default : goal.atom-returns-in_default

@@ -1,4 +1,4 @@
-use Rattle.std.proofs.Common.{true, false, [], sym, refl, ◌∙◌}
+use Rattle.std.proofs.Common.{false, [], sym, refl, ◌∙◌}
 use Rattle.sentence.specs.Machine.{titles, recs, ands, labels, equals, ready, let_seen, flag_seen, tilde_seen, operand, of_check, nothing}
 use Rattle.sentence.proofs.Phrases.{ready_denied, ready_lets, ready_flags, ready_words, ready_other, ready_none, step_stated}
 use Rattle.sentence.proofs.phrase.statement.Goals as goal

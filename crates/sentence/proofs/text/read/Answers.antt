@@ -1,4 +1,4 @@
-use Rattle.std.proofs.Common.{vec_items, sym, ◌∙◌}
+use Rattle.std.proofs.Common.{vec_items}
 use Rattle.std.proofs.lemmas.Result.{err_from_is_err_and}
 use Rattle.sentence.proofs.Readings.{reading_first, reading_more, reading_done, reading_stuck}
 use Rattle.sentence.proofs.text.read.Goals as goal

@@ -1,4 +1,4 @@
-use Rattle.std.proofs.Common.{◌≡◌, sym, ap, ◌∙◌, subst}
+use Rattle.std.proofs.Common.{sym, ap, ◌∙◌, subst}
 use Rattle.bench.specs.Benches.{bench_run}
 use Rattle.bench.specs.Refusals.{Answers}
 use Rattle.bench.specs.Tests.{answer, stepped}

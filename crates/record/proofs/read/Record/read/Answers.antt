@@ -1,6 +1,6 @@
-use Rattle.std.proofs.Common.{◌≡◌, ℕ, Some, None, sym, refl, subst, arith}
+use Rattle.std.proofs.Common.{sym, refl, subst, arith}
 use Rattle.record.specs.Format.{Bytes}
-use Rattle.record.specs.Reading.{record_run, read_fault}
+use Rattle.record.specs.Reading.{record_run}
 use Rattle.record.specs.Readings.{Read}
 use Rattle.record.proofs.Readable.{reading, one_reading, one_run}
 use Rattle.record.proofs.read.Record.read.Goals as goal
