@@ -12,7 +12,7 @@ use Rattle.sentence.specs.Trees.{Tree, Word, Mark, plain, binds, groups, checks,
 use Rattle.sentence.specs.Looks.{first_role, role_complements, role_recs, role_ands, role_labels, role_equals, role_word, role_speech, role_name}
 use Rattle.sentence.specs.Machine.{Speech, lets, flags, words, fill, nothing, Binding, single, first, more, Owner, of_binding, of_check, State, ready, let_seen, name_due, equals_due, flag_seen, tilde_seen, label_due, operand, after, also, finish, grouped, labelling, marked, opening, told_on, feed, accept, outcome}
 use Rattle.sentence.specs.Parsing.{Led, Faulted, Halts}
-use Rattle.sentence.specs.Statements.{trees_of, statement_of, statements_of, Goes_on, GetsStuck, Stated, GoesBound, Unbound, Binds}
+use Rattle.sentence.specs.Statements.{trees_of, statement_of, statements_of, GoesOn, GetsStuck, Stated, GoesBound, Unbound, Binds}
 use Rattle.sentence.specs.Exprs.{tree_of}
 use Rattle.sentence.proofs.Looked.{here, no_some, no_true}
 use Rattle.sentence.proofs.Climbs.{no_sign}
@@ -91,7 +91,7 @@ module _ (ts : List Sort) where
   let_single : (at : ℕ) → role_recs (first_role (drop at ts)) ≡ false → (p : Sentence) → outcome (let_seen p) at (drop at ts) ≡ outcome (name_due p single) at (drop at ts)
   let_single at e p = Heard.looks (let_seen p) at (drop at ts) ∙ Heard.rec_off at (drop at ts) p (first_role (drop at ts)) e ∙ sym (Heard.looks (name_due p single) at (drop at ts))
 
-  pub goes_let : (at : ℕ) (t : Tree) (next : ℕ) → role_recs (first_role (drop at ts)) ≡ false → GoesBound ts at t next → Goes_on (λ p. let_seen p) ts at (binds t) next
+  pub goes_let : (at : ℕ) (t : Tree) (next : ℕ) → role_recs (first_role (drop at ts)) ≡ false → GoesBound ts at t next → GoesOn (λ p. let_seen p) ts at (binds t) next
   goes_let at t next e h =
       record {
         leads = λ p. let_single at e p ∙ h.leads p single ∙ Heard.leave_on next (drop next ts) p (of_binding single) t (binds t) refl (no_sign ts next h.halts) h.halts.bare (λ k. refl) (λ k. refl);
@@ -147,7 +147,7 @@ module _ (ts : List Sort) where
   grouping_stuck at t us next Memory h e g = tt
   grouping_stuck at t us next (Place k) h e g = λ p. grouping_on at t us next h e p ∙ g p (more t us)
 
-  pub grouping_done : (at : ℕ) (t : Tree) (us : List Tree) (next : ℕ) → Grouping at t us next → role_ands (first_role (drop next ts)) ≡ false → Goes_on (λ p. name_due p first) ts at (groups t us) next
+  pub grouping_done : (at : ℕ) (t : Tree) (us : List Tree) (next : ℕ) → Grouping at t us next → role_ands (first_role (drop next ts)) ≡ false → GoesOn (λ p. name_due p first) ts at (groups t us) next
   grouping_done at t us next h e =
       record {
         leads = λ p.
@@ -163,9 +163,9 @@ module _ (ts : List Sort) where
 
   -- a check behind its word
   pub claim_plain : (at : ℕ) (f n : Bool) (w : Word) (t : Tree) (next : ℕ) → f ≡ false → Led ts at 1 0 t next → Halts ts 1 next → role_labels (first_role (drop next ts)) ≡ false →
-      Goes_on (λ p. operand p (of_check f n w) [] nothing) ts at (checks plain n w t) next
+      GoesOn (λ p. operand p (of_check f n w) [] nothing) ts at (checks plain n w t) next
   claim_plain at f n w t next off h stops e =
-      subst (λ x. Goes_on (λ p. operand p (of_check x n w) [] nothing) ts at (checks plain n w t) next) (sym off)
+      subst (λ x. GoesOn (λ p. operand p (of_check x n w) [] nothing) ts at (checks plain n w t) next) (sym off)
       (record {
         leads = λ p.
             whole at t next h p (of_check false n w)
@@ -188,7 +188,7 @@ module _ (ts : List Sort) where
       ∙ Heard.heard (after p (of_check f n w) [] t) (label_due p f n w t) ts next (Heard.label_on next (drop next ts) p f n w t (first_role (drop next ts)) e)
 
   pub claim_label : (at : ℕ) (f n : Bool) (w : Word) (t : Tree) (next : ℕ) (m : Mark) → Led ts at 1 0 t next → role_labels (first_role (drop next ts)) ≡ true → role_name (first_role (drop (next + 1) ts)) ≡ true → m ≡ marked f →
-      Goes_on (λ p. operand p (of_check f n w) [] nothing) ts at (checks m n w t) (next + 2)
+      GoesOn (λ p. operand p (of_check f n w) [] nothing) ts at (checks m n w t) (next + 2)
   unfolding feed
   claim_label at f n w t next m h e g is =
       let two : next + 1 + 1 ≡ next + 2 = omega arith in

@@ -9,7 +9,7 @@ use Rattle.sentence.specs.Trees.{Sentence}
 use Rattle.sentence.specs.Texts.{Writes}
 use Rattle.sentence.specs.Looks.{first_role, role_titles}
 use Rattle.sentence.specs.Machine.{begun, ready, blank, accept, outcome}
-use Rattle.sentence.specs.Statements.{Goes_on, GetsStuck, statement_of, statements_of}
+use Rattle.sentence.specs.Statements.{GoesOn, GetsStuck, statement_of, statements_of}
 use Rattle.sentence.specs.Laws.{Tells}
 use Rattle.sentence.specs.Reading.{ReadAs}
 use Rattle.sentence.proofs.Looked.{here, no_true}
@@ -49,7 +49,7 @@ reading_first ts b ss at e is none = subst (λ x. ReadingOn ts b x at) (sym none
     go false e = reading_plain ts e
 
 -- one statement more
-pub reading_more : (ts : List Sort) (b : Bool) (ss rs : List statement.Statement) (s : statement.Statement) (at next : ℕ) → ReadingOn ts b ss at → Goes_on (λ p. ready p) ts at (statement_of s) next → rs ≡ ss ++ (s ∷ []) → ReadingOn ts b rs next
+pub reading_more : (ts : List Sort) (b : Bool) (ss rs : List statement.Statement) (s : statement.Statement) (at next : ℕ) → ReadingOn ts b ss at → GoesOn (λ p. ready p) ts at (statement_of s) next → rs ≡ ss ++ (s ∷ []) → ReadingOn ts b rs next
 reading_more ts b ss rs s at next h g same =
     subst (λ x. ReadingOn ts b x next) (sym same)
     (record {

@@ -38,7 +38,7 @@ abbrev pub sentence_of : sentence.Sentence → Sentence
 sentence_of x = record { titled = x.titled; statements = statements_of (vec_items x.statements) }
 
 -- whatever the sentence so far: from such a state the machine comes to be ready with this statement more
-pub record Goes_on (c : Sentence → State) (ts : List Sort) (at : ℕ) (s : Statement) (next : ℕ) : Type 0 where
+pub record GoesOn (c : Sentence → State) (ts : List Sort) (at : ℕ) (s : Statement) (next : ℕ) : Type 0 where
   pub leads : (p : Sentence) → outcome (c p) at (drop at ts) ≡ outcome (ready (also p s)) next (drop next ts)
   pub past : at < next
   pub within : next ≤ length ts
@@ -49,7 +49,7 @@ GetsStuck c ts at Memory = Unit {0}
 GetsStuck c ts at (Place k) = (p : Sentence) → outcome (c p) at (drop at ts) ≡ Err k
 
 abbrev pub Stated : (Sentence → State) → List Sort → ℕ → Result Said SentenceFault → Type 0
-Stated c ts at (Ok r) = Goes_on c ts at (statement_of r.statement) r.next
+Stated c ts at (Ok r) = GoesOn c ts at (statement_of r.statement) r.next
 Stated c ts at (Err f) = GetsStuck c ts at f
 
 -- a binding, whosever it is

@@ -4,7 +4,7 @@ use Rattle.std.specs.Str.{bytes_eq}
 use Rattle.std.proofs.lemmas.Slice.Eq.{bytes_eq-Decides}
 use Rattle.std.proofs.lemmas.List.{take_at}
 use Rattle.std.proofs.lemmas.Bool.{eqb-true, eqb-false, ne_eqb, and_parts, cond_both, leb-true}
-use Rattle.token.specs.Classes.{Blank, Letter, Goes_on, class}
+use Rattle.token.specs.Classes.{Blank, Letter, GoesOn, class}
 use Rattle.token.specs.Tokens.{Reserved, let_word, rec_word, and_word, acyclic_word, irreflexive_word, empty_word, flag_word, as_word, Symbol, universe, no_pairs, no_events, inverse, open_round, close_round, open_square, close_square, bar, semicolon, backslash, ampersand, star, tilde, plus, question, equals, Word, name, title, key, sign, keyword, symbol, spelling}
 use Rattle.token.specs.Lexing.{Item, blank, comment, token, spell, Every, Closes, Formed, Stops, Apart, Proper}
 use Rattle.token.specs.Items.{run, quote_from, end_from, word_of, titled, commented, when, single, opened, signed, begun, item_of}
@@ -54,7 +54,7 @@ unfolding word_of
 word_none bytes a b c d e f g h = rw (← a, ← b, ← c, ← d, ← e, ← f, ← g, ← h) refl
 
 -- a word's bytes, with nothing behind them with which it would go on
-word_begins : (bytes more : List ℕ) → Letter (get_or bytes 0 0) → Every Goes_on bytes → Stops more → item_of (bytes ++ more) ≡ Some (token (word_of bytes))
+word_begins : (bytes more : List ℕ) → Letter (get_or bytes 0 0) → Every GoesOn bytes → Stops more → item_of (bytes ++ more) ≡ Some (token (word_of bytes))
 unfolding begun
 word_begins [] more (inl l) e s = absurd (omega arith)
 word_begins [] more (inr l) e s = absurd (omega arith)
@@ -63,7 +63,7 @@ word_begins (b ∷ bytes) more l e s =
     ∙ ap (λ n. Some (token (word_of (take n (b ∷ (bytes ++ more)))))) (run_counts (b ∷ bytes) more 0 e s ∙ (let z : 0 + length (b ∷ bytes) ≡ length (b ∷ bytes) = omega arith in z))
     ∙ ap (λ l. Some (token (word_of l))) (take_at (b ∷ bytes) more _ refl)
 
-letters_go_on : (bytes : List ℕ) → Every Letter bytes → Every Goes_on bytes
+letters_go_on : (bytes : List ℕ) → Every Letter bytes → Every GoesOn bytes
 letters_go_on [] e = tt
 letters_go_on (b ∷ bytes) e = (inl e.0, letters_go_on bytes e.1)
 
@@ -172,7 +172,7 @@ good_step bytes k other h =
 abbrev Unlike : List ℕ → Reserved → Type 0
 Unlike bytes k = bytes ≡ keyword k → ⊥
 
-word_good : (bytes : List ℕ) → Letter (get_or bytes 0 0) → Every Goes_on bytes → Good bytes (word_of bytes)
+word_good : (bytes : List ℕ) → Letter (get_or bytes 0 0) → Every GoesOn bytes → Good bytes (word_of bytes)
 unfolding word_of
 word_good bytes l e =
     good_step bytes let_word _ (λ a. good_step bytes rec_word _ (λ b. good_step bytes and_word _ (λ c. good_step bytes acyclic_word _ (λ d.

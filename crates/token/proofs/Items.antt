@@ -1,20 +1,20 @@
 -- What the code finds at the beginning of a text is what stands there. Assumes nothing.
 use Rattle.std.proofs.Common.{◌≡◌, ℕ, zero, suc, ◌+◌, ◌≤◌, Bool, true, false, ◌&&◌, eqb, leb, List, [], ◌∷◌, ◌++◌, length, get_or, Some, None, Option, sym, refl, ap, ◌∙◌, subst, inl, inr, arith}
 use Rattle.std.proofs.lemmas.Bool.{eqb-true, eqb-false, ne_eqb, eq-eqb, leb-true, and_parts, and_from, cond_both, cond-true, cond-false, and_right}
-use Rattle.token.specs.Classes.{Goes_on, class}
+use Rattle.token.specs.Classes.{GoesOn, class}
 use Rattle.token.specs.Lexing.{Every, Closes, Stops}
 use Rattle.token.specs.Items.{goes_on, run, quote_from, end_from}
 use Rattle.token.proofs.Never.{no_way, stays_false}
 use Rattle.token.proofs.Classes.{classified}
 
 -- the bytes that go on in a name, by the class
-pub goes_on_told : (b : ℕ) → goes_on b ≡ true → Goes_on b
+pub goes_on_told : (b : ℕ) → goes_on b ≡ true → GoesOn b
 goes_on_told b h =
     let low = leb-true 2 (class b) (and_parts _ _ h).0 in
     let high = leb-true (class b) 4 (and_parts (leb 2 (class b)) _ h).1 in
     go (class b) refl low high
   where
-    go : (c : ℕ) → class b ≡ c → 2 ≤ c → c ≤ 4 → Goes_on b
+    go : (c : ℕ) → class b ≡ c → 2 ≤ c → c ≤ 4 → GoesOn b
     go zero e l h = absurd (omega arith)
     go (suc zero) e l h = absurd (omega arith)
     go (suc (suc zero)) e l h = inl ((classified b).letter.0 e)
@@ -22,13 +22,13 @@ goes_on_told b h =
     go (suc (suc (suc (suc zero)))) e l h = inr (inr ((classified b).mark.0 e))
     go (suc (suc (suc (suc (suc c))))) e l h = absurd (omega arith)
 
-pub goes_on_from : (b : ℕ) → Goes_on b → goes_on b ≡ true
+pub goes_on_from : (b : ℕ) → GoesOn b → goes_on b ≡ true
 goes_on_from b (inl h) = ap (λ c. leb 2 c && leb c 4) ((classified b).letter.1 h)
 goes_on_from b (inr (inl h)) = ap (λ c. leb 2 c && leb c 4) ((classified b).digit.1 h)
 goes_on_from b (inr (inr h)) = ap (λ c. leb 2 c && leb c 4) ((classified b).mark.1 h)
 
 -- a name's bytes are counted to where they end
-pub run_counts : (bytes more : List ℕ) (at : ℕ) → Every Goes_on bytes → Stops more → run at (bytes ++ more) ≡ at + length bytes
+pub run_counts : (bytes more : List ℕ) (at : ℕ) → Every GoesOn bytes → Stops more → run at (bytes ++ more) ≡ at + length bytes
 unfolding run
 run_counts [] [] at e s = omega arith
 run_counts [] (b ∷ more) at e s = cond-false (goes_on b) (run (at + 1) more) at (stays_false (goes_on b) (λ h. s (goes_on_told b h))) ∙ (let z : at ≡ at + 0 = omega arith in z)
@@ -40,7 +40,7 @@ pub record Run (at : ℕ) (text : List ℕ) : Type 0 where
   pub bytes : List ℕ
   pub more : List ℕ
   pub splits : text ≡ bytes ++ more
-  pub on : Every Goes_on bytes
+  pub on : Every GoesOn bytes
   pub stops : Stops more
   pub long : run at text ≡ at + length bytes
 

@@ -36,8 +36,8 @@ abbrev pub Sign : ℕ → Type 0
 Sign b = Among signs b
 
 -- a byte that can go on in a name
-abbrev pub Goes_on : ℕ → Type 0
-Goes_on b = Letter b ⊎ (Digit b ⊎ Mark b)
+abbrev pub GoesOn : ℕ → Type 0
+GoesOn b = Letter b ⊎ (Digit b ⊎ Mark b)
 
 -- the class of a byte, by its number; class 0 has all others
 pub record Classified (b c : ℕ) : Type 0 where

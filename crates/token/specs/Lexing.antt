@@ -1,6 +1,6 @@
 -- Lexing: which blanks, comments and tokens a text is made of. Assumes nothing.
 use Rattle.std.specs.Prelude.{◌≡◌, ℕ, ◌+◌, ◌≤◌, List, [], ◌∷◌, ◌++◌, length, codes, ◌≢◌, slice_index}
-use Rattle.token.specs.Classes.{Among, Blank, Letter, Digit, Mark, Sign, Goes_on}
+use Rattle.token.specs.Classes.{Among, Blank, Letter, Digit, Mark, Sign, GoesOn}
 use Rattle.token.specs.Tokens.{Reserved, Word, name, title, key, sign, keyword, symbol, spelling}
 
 -- a stretch of the text: a blank, a comment by what stands inside, a token
@@ -23,7 +23,7 @@ Every P (b ∷ bytes) = P b × Every P bytes
 -- a name: a letter, and behind it letters, digits and marks; no reserved word
 pub record Named (bytes : List ℕ) : Type 0 where
   pub first : Letter (slice_index bytes 0)
-  pub goes_on : Every Goes_on bytes
+  pub goes_on : Every GoesOn bytes
   pub free : (k : Reserved) → bytes ≢ keyword k
 
 -- no `*)` before the one that ends the comment
@@ -40,7 +40,7 @@ Formed (sign s) = Unit {0}
 -- no byte comes next with which a name would go on
 abbrev pub Stops : List ℕ → Type 0
 Stops [] = Unit {0}
-Stops (b ∷ more) = Goes_on b → ⊥
+Stops (b ∷ more) = GoesOn b → ⊥
 
 -- the token ends where it does: a word takes all the bytes that it can, and where `(*` stands a comment begins
 abbrev pub Apart : Word → List ℕ → Type 0

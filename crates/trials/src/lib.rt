@@ -1,8 +1,10 @@
-//! Trials: worked examples of runs, benches, records, relations, coherence orders, texts and sentences, each proved safe and then run.
+//! Trials: worked examples of runs, benches, records, relations, coherence orders, texts, sentences and models, each proved safe and then run.
 #![tactic(auto)]
 
 #[cfg(test)]
 mod benches;
+#[cfg(test)]
+mod models;
 #[cfg(test)]
 mod orders;
 #[cfg(test)]

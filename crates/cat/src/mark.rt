@@ -1,0 +1,52 @@
+//! Marks of checks, with their labels.
+ghost use Rattle.std.specs.Prelude.{◌≡◌, map, length, IfOk};
+ghost use Rattle.sentence.specs.Statements.{mark_of as said_mark};
+ghost use Rattle.sentence.specs.Trees.{mark_back};
+ghost use Rattle.term.specs.Statements.{mark_of};
+ghost use Rattle.token.specs.Views.{lexeme_view};
+ghost use Rattle.cat.specs.Resolving.{mark_at, before_word};
+
+use super::scope::name_at;
+use sentence::statement::Mark as Said;
+use std::alloc::{AllocError, Global};
+use term::statement::Mark;
+use token::Lexeme;
+
+/// How many tokens stand before the word of a check.
+pub(crate) fn before_word(mark: Said, negated: bool) -> usize
+    ensures { result ≡ before_word (said_mark mark) negated }
+{
+    let flag = match mark {
+        Said::Plain => 0,
+        Said::Labelled(_) => 0,
+        Said::Flagged(_) => 1,
+    };
+    if negated { flag + 1 } else { flag }
+}
+
+/// How many tokens stand behind the expression of a check.
+pub(crate) fn behind_term(mark: Said) -> usize
+    ensures { result ≡ length (mark_back (said_mark mark)) }
+{
+    match mark {
+        Said::Plain => 0,
+        Said::Labelled(_) => 2,
+        Said::Flagged(_) => 2,
+    }
+}
+
+/// The mark of a check, with its label at a token.
+pub(crate) fn labelled<'a>(
+    heap: Global,
+    lexemes: &[Lexeme<'a>],
+    token: usize,
+    mark: Said,
+) -> Result<Mark, AllocError>
+    ensures { IfOk result (λ m. mark_of m ≡ mark_at (map lexeme_view lexemes.now) token (said_mark mark)) }
+{
+    match mark {
+        Said::Plain => Ok(Mark::Plain),
+        Said::Labelled(_) => Ok(Mark::Labelled(Vec::from_slice(heap, name_at(lexemes, token))?)),
+        Said::Flagged(_) => Ok(Mark::Flagged(Vec::from_slice(heap, name_at(lexemes, token))?)),
+    }
+}

@@ -1,0 +1,248 @@
+-- Checks tried one by one. Assumes nothing.
+use Rattle.std.proofs.Common.{◌≡◌, ℕ, zero, suc, ◌+◌, ◌*◌, ◌%◌, ◌^◌, ◌<◌, ◌≤◌, Bool, true, false, not, ◌&&◌, ◌⊎◌, ◌↔◌, List, [], ◌∷◌, ◌++◌, map, length, take, drop, Some, None, Decides, Option, sym, refl, ap, ◌∙◌, subst, inl, inr, ⊎_elim, arith, take-append-drop}
+use mathlib.Core.Path.{subst⁻¹}
+use Rattle.std.proofs.lemmas.List.{append-nil, length-append, take_all}
+use Rattle.std.proofs.lemmas.Bool.{and_parts, and_from, both_ways}
+use Rattle.finite.specs.Lists.{At}
+use Rattle.relation.specs.declared.value.Value.{Value}
+use Rattle.relation.specs.Sets.{Either}
+use Rattle.relation.specs.Masks.{Member, Marks}
+use Rattle.relation.specs.Values.{Meaning}
+use Rattle.relation.specs.Bits.{in_nothing, in_power}
+use Rattle.term.specs.Statements.{Binding, Claim, Statement, lets, groups, checks, claims}
+use Rattle.given.specs.declared.base.Base as given_base
+use Rattle.given.specs.Bases.{base_meaning}
+use Rattle.meaning.specs.declared.outcome.Outcome.{Outcome}
+use Rattle.meaning.specs.Meanings.{Base}
+use Rattle.meaning.specs.Groups.{bindings_mean}
+use Rattle.meaning.specs.Checks.{is_flag}
+use Rattle.meaning.specs.Tables.{value_meaning}
+use Rattle.meaning.specs.Knowns.{Known}
+use Rattle.meaning.specs.Outcomes.{Good, first_of, RaisesBit, Tally, Tallied, Totalled, WithinLimits, Judged}
+use Rattle.meaning.specs.Placed.{at_below}
+use Rattle.meaning.proofs.Knowing.{mean_same, same_all_sym}
+use Rattle.meaning.proofs.Gone.{take_at}
+use Rattle.meaning.proofs.Asking.{good_as}
+
+module _ {A : Type 0} where
+  -- what stands in a list with one more at its end
+  at_push : (xs : List A) (y : A) (k : ℕ) (x : A) → At (xs ++ y ∷ []) k x → At xs k x ⊎ ((k ≡ length xs) × (x ≡ y))
+  at_push [] y zero x h = inr (refl, h)
+  at_push [] y (suc k) x h = absurd h
+  at_push (z ∷ xs) y zero x h = inl h
+  at_push (z ∷ xs) y (suc k) x h = ⊎_elim inl (λ e. inr (ap suc e.0, e.1)) (at_push xs y k x h)
+
+  at_front : (xs ys : List A) (k : ℕ) (x : A) → At xs k x → At (xs ++ ys) k x
+  at_front [] ys k x h = absurd h
+  at_front (z ∷ xs) ys zero x h = h
+  at_front (z ∷ xs) ys (suc k) x h = at_front xs ys k x h
+
+  at_last : (xs : List A) (y : A) → At (xs ++ y ∷ []) (length xs) y
+  at_last [] y = refl
+  at_last (z ∷ xs) y = at_last xs y
+
+-- the failure that is kept
+first_none : (f : Option ℕ) (n : ℕ) (b : Bool) → first_of f n b ≡ None → (f ≡ None) × (b ≡ false)
+first_none None n true e = let z : ◌≡◌ {A = ℕ} 0 1 = cc in absurd (omega arith)
+first_none None n false e = (refl, refl)
+first_none (Some k) n b e = let z : ◌≡◌ {A = ℕ} 0 1 = cc in absurd (omega arith)
+
+first_some : (f : Option ℕ) (n : ℕ) (b : Bool) (k : ℕ) → first_of f n b ≡ Some k → (f ≡ Some k) ⊎ ((f ≡ None) × (b ≡ true) × (n ≡ k))
+first_some None n true k e = inr (refl, refl, cc)
+first_some None n false k e = let z : ◌≡◌ {A = ℕ} 0 1 = cc in absurd (omega arith)
+first_some (Some j) n b k e = inl e
+
+option_cases : (f : Option ℕ) → (f ≡ None) ⊎ ((k : ℕ) × (f ≡ Some k))
+option_cases None = inl refl
+option_cases (Some k) = inr (k, refl)
+
+-- of a check that is no flag
+holds_then : (flag good : Bool) → (not flag && not good) ≡ false → flag ≡ false → good ≡ true
+holds_then true good e f = let z : ◌≡◌ {A = ℕ} 0 1 = cc in absurd (omega arith)
+holds_then false true e f = refl
+holds_then false false e f = let z : ◌≡◌ {A = ℕ} 0 1 = cc in absurd (omega arith)
+
+fails_then : (flag good : Bool) → (not flag && not good) ≡ true → (flag ≡ false) × (good ≡ false)
+fails_then true good e = let z : ◌≡◌ {A = ℕ} 0 1 = cc in absurd (omega arith)
+fails_then false true e = let z : ◌≡◌ {A = ℕ} 0 1 = cc in absurd (omega arith)
+fails_then false false e = (refl, refl)
+
+-- the bits with one more, and without
+pub raised_up : (old n : ℕ) (up : Bool) {new : ℕ} → n < 16 → up ≡ true → Marks new (Either (Member old) (Member ((1 * 2 ^ n) % 2 ^ 32))) → RaisesBit old n up new
+raised_up old n up l e h k =
+    (λ m. ⊎_elim inl (λ b. inr (e, (in_power n k (omega arith)).0 b)) ((h.same k).0 m), λ m. (h.same k).1 (⊎_elim inl (λ b. inr ((in_power n k (omega arith)).1 b.1)) m))
+
+pub raised_not : (old n : ℕ) (up : Bool) → up ≡ false → RaisesBit old n up old
+raised_not old n up e k = (inl, ⊎_elim (λ m. m) (λ b. absurd (both_ways up e b.0)))
+
+module _ (P : Claim → Type 0) where
+  -- of no checks
+  pub tally_none : (o : Outcome) → o.failure ≡ None → o.flags ≡ 0 → Tally P [] o
+  tally_none o e f =
+      record {
+        passed = λ _ k c h. absurd h;
+        first = λ k h. let z : ◌≡◌ {A = ℕ} 0 1 = cc in absurd (omega arith);
+        flags = λ k. (λ m. absurd (in_nothing k (subst (λ x. Member x k) f m)), λ r. absurd r.here);
+      }
+
+  -- of one more check
+  pub tally_more : (cs : List Claim) (c : Claim) (o r : Outcome) (n : ℕ) (flag good : Bool) → length cs ≡ n → flag ≡ is_flag c.mark → Decides good (P c) → r.failure ≡ first_of o.failure n (not flag && not good) → RaisesBit o.flags n (flag && good) r.flags → Tally P cs o → Tally P (cs ++ c ∷ []) r
+  tally_more cs c o r n flag good long mark decides failure raises t =
+      record {
+        passed = λ e k x at nf.
+            let f = first_none o.failure n (not flag && not good) (sym failure ∙ e) in
+            ⊎_elim
+            (λ there. t.passed f.0 k x there nf)
+            (λ here. subst⁻¹ P here.1 (decides.0 (holds_then flag good f.1 (mark ∙ ap (λ y. is_flag y.mark) (sym here.1) ∙ nf))))
+            (at_push cs c k x at);
+        first = λ k e.
+            ⊎_elim
+            (λ same.
+            let f = t.first k same in
+            let under = at_below cs k f.claim f.here in
+            record {
+              claim = f.claim;
+              here = at_front cs (c ∷ []) k f.claim f.here;
+              no_flag = f.no_flag;
+              fails = f.fails;
+              before = λ j x l at nf. ⊎_elim (λ there. f.before j x l there nf) (λ here. absurd (omega (arith, l, here.0, under))) (at_push cs c j x at);
+            })
+            (λ new.
+            let f = fails_then flag good new.1 in
+            record {
+              claim = c;
+              here = subst (λ i. At (cs ++ c ∷ []) i c) (long ∙ new.2) (at_last cs c);
+              no_flag = sym mark ∙ f.0;
+              fails = λ p. both_ways good f.1 (decides.1 p);
+              before = λ j x l at nf. ⊎_elim (λ there. t.passed new.0 j x there nf) (λ here. absurd (omega (arith, l, here.0, long, new.2))) (at_push cs c j x at);
+            })
+            (first_some o.failure n (not flag && not good) k (sym failure ∙ e));
+        flags = λ k. (
+          λ m.
+              ⊎_elim
+              (λ old. let x = (t.flags k).0 old in record { claim = x.claim; here = at_front cs (c ∷ []) k x.claim x.here; flag = x.flag; holds = x.holds })
+              (λ new.
+              let b = and_parts flag good new.0 in
+              record { claim = c; here = subst (λ i. At (cs ++ c ∷ []) i c) (long ∙ sym new.1) (at_last cs c); flag = sym mark ∙ b.0; holds = decides.0 b.1 })
+              ((raises k).0 m),
+          λ x.
+              (raises k).1
+              (⊎_elim
+              (λ there. inl ((t.flags k).1 (record { claim = x.claim; here = there; flag = x.flag; holds = x.holds })))
+              (λ here.
+              inr (
+                and_from flag good (mark ∙ ap (λ y. is_flag y.mark) (sym here.1) ∙ x.flag) (decides.1 (subst P here.1 x.holds)),
+                here.0 ∙ long,
+              ))
+              (at_push cs c k x.claim x.here)),
+        );
+      }
+
+  -- where other facts say the same
+  pub tally_as : (Q : Claim → Type 0) → ((c : Claim) → P c ↔ Q c) → (cs : List Claim) (o : Outcome) → Tally P cs o → Tally Q cs o
+  tally_as Q h cs o t =
+      record {
+        passed = λ e k c at nf. (h c).0 (t.passed e k c at nf);
+        first = λ k e.
+            let f = t.first k e in
+            record { claim = f.claim; here = f.here; no_flag = f.no_flag; fails = λ q. f.fails ((h f.claim).1 q); before = λ j c l at nf. (h c).0 (f.before j c l at nf) };
+        flags = λ k. (
+          λ m. let x = (t.flags k).0 m in record { claim = x.claim; here = x.here; flag = x.flag; holds = (h x.claim).0 x.holds },
+          λ x. (t.flags k).1 (record { claim = x.claim; here = x.here; flag = x.flag; holds = (h x.claim).1 x.holds }),
+        );
+      }
+
+-- the checks of a statement: none, or one
+pub claims_let : {s : Statement} {b : Binding} → s ≡ lets b → claims (s ∷ []) ≡ []
+unfolding claims
+claims_let e = ap (λ x. claims (x ∷ [])) e
+
+pub claims_group : {s : Statement} {bs : List Binding} → s ≡ groups bs → claims (s ∷ []) ≡ []
+unfolding claims
+claims_group e = ap (λ x. claims (x ∷ [])) e
+
+pub claims_check : {s : Statement} {c : Claim} → s ≡ checks c → claims (s ∷ []) ≡ c ∷ []
+unfolding claims
+claims_check e = ap (λ x. claims (x ∷ [])) e
+
+claims_append : (xs ys : List Statement) → claims (xs ++ ys) ≡ claims xs ++ claims ys
+unfolding claims
+claims_append [] ys = refl
+claims_append (lets b ∷ xs) ys = claims_append xs ys
+claims_append (groups bs ∷ xs) ys = claims_append xs ys
+claims_append (checks c ∷ xs) ys = ap (λ zs. c ∷ zs) (claims_append xs ys)
+
+-- how many checks are behind a statement
+pub count_none : (n : ℕ) (cs : List Claim) → cs ≡ [] → n ≡ n + length cs
+count_none n cs e = omega (arith, ap length e)
+
+pub count_one : (n : ℕ) (cs : List Claim) {c : Claim} → cs ≡ c ∷ [] → n + 1 ≡ n + length cs
+count_one n cs e = omega (arith, ap length e)
+
+pub count_over : (n : ℕ) (cs : List Claim) {c : Claim} → cs ≡ c ∷ [] → 16 ≤ n → n + length cs ≤ 16 → 16 ≡ n + length cs
+count_over n cs e l h = absurd (omega (arith, ap length e, l, h))
+
+module _ (base : Base) (known : List Meaning) where
+  -- a statement without a check
+  pub tallied_none : (s : Statement) (n : ℕ) (o : Outcome) → claims (s ∷ []) ≡ [] → Tallied base known s n o o
+  tallied_none s n o e cs long few t = subst⁻¹ (λ xs. Tally (Good base known) xs o) (ap (λ xs. cs ++ xs) e ∙ append-nil cs) t
+
+  -- a check
+  pub tallied_one : (s : Statement) (c : Claim) (n : ℕ) (flag good : Bool) (o r : Outcome) → claims (s ∷ []) ≡ c ∷ [] → flag ≡ is_flag c.mark → Decides good (Good base known c) → r.failure ≡ first_of o.failure n (not flag && not good) → RaisesBit o.flags n (flag && good) r.flags → Tallied base known s n o r
+  tallied_one s c n flag good o r e mark decides failure raises cs long few t =
+      subst⁻¹ (λ xs. Tally (Good base known) xs r) (ap (λ xs. cs ++ xs) e) (tally_more (Good base known) cs c o r n flag good long mark decides failure raises t)
+
+  -- a check too many
+  pub tallied_over : (s : Statement) (c : Claim) (n : ℕ) (o r : Outcome) → claims (s ∷ []) ≡ c ∷ [] → 16 ≤ n → Tallied base known s n o r
+  tallied_over s c n o r e l cs long few t = absurd (omega (arith, few, length-append cs (claims (s ∷ [])), ap length e, long, l))
+
+  -- so many statements are gone through
+  pub record Trying (ss : List Statement) (i n : ℕ) (o : Outcome) : Type 0 where
+    pub few : n ≤ 16
+    pub tally : length (claims ss) ≤ 16 → (n ≡ length (claims (take i ss))) × Tally (Good base known) (claims (take i ss)) o
+
+  pub trying_none : (ss : List Statement) (o : Outcome) → o.failure ≡ None → o.flags ≡ 0 → Trying ss 0 0 o
+  unfolding claims
+  trying_none ss o e f = record { few = omega arith; tally = λ _. (refl, tally_none (Good base known) o e f) }
+
+  pub trying_more : (ss : List Statement) (i n m : ℕ) (o r : Outcome) (s : Statement) → At ss i s → Trying ss i n o → Tallied base known s n o r → m ≤ 16 → (n + length (claims (s ∷ [])) ≤ 16 → m ≡ n + length (claims (s ∷ []))) → Trying ss (i + 1) m r
+  trying_more ss i n m o r s at t h few count =
+      record {
+        few = few;
+        tally = λ all.
+            let p = t.tally all in
+            let list : claims (take (i + 1) ss) ≡ claims (take i ss) ++ claims (s ∷ []) = ap claims (take_at ss i s at) ∙ claims_append (take i ss) (s ∷ []) in
+            let size = length-append (claims (take i ss)) (claims (s ∷ [])) in
+            let whole : length (claims ss) ≡ length (claims (take (i + 1) ss)) + length (claims (drop (i + 1) ss)) =
+            ap (λ xs. length (claims xs)) (sym (take-append-drop (i + 1) ss)) ∙ ap length (claims_append (take (i + 1) ss) (drop (i + 1) ss)) ∙ length-append (claims (take (i + 1) ss)) (claims (drop (i + 1) ss)) in
+            let room : length (claims (take i ss) ++ claims (s ∷ [])) ≤ 16 = omega (arith, whole, ap length list, all) in (
+              omega (arith, ap length list, size, p.0, count (omega (arith, room, size, p.0))),
+              subst⁻¹ (λ xs. Tally (Good base known) xs r) list (h (claims (take i ss)) (sym p.0) room p.1),
+            );
+      }
+
+  pub trying_done : (ss : List Statement) (i n : ℕ) (o : Outcome) → length ss ≤ i → Trying ss i n o → Totalled base known ss o
+  trying_done ss i n o l t all = subst (λ xs. Tally (Good base known) (claims xs) o) (take_all i ss l) (t.tally all).1
+
+-- the outcome of the checks of a text is that of the text
+tally_judged : (base : Base) (ss : List Statement) (o : Outcome) → Tally (Good base (bindings_mean base [] ss)) (claims ss) o → Judged base ss o
+tally_judged base ss o t =
+    record {
+      passes = (
+        λ e k c at nf. t.passed e k c at nf,
+        λ all. ⊎_elim (λ e. e) (λ e. let f = t.first e.0 e.1 in absurd (f.fails (all e.0 f.claim f.here f.no_flag))) (option_cases o.failure),
+      );
+      fails = λ k e. let f = t.first k e in record { claim = f.claim; here = f.here; no_flag = f.no_flag; fails = f.fails; before = f.before };
+      flags = λ k. (
+        λ m. let x = (t.flags k).0 m in record { claim = x.claim; here = x.here; flag = x.flag; holds = x.holds },
+        λ x. (t.flags k).1 (record { claim = x.claim; here = x.here; flag = x.flag; holds = x.holds }),
+      );
+    }
+
+pub judged : (base : given_base.Base) (ss : List Statement) (values : List Value) (many : ℕ) (o : Outcome) → Known base ss values many → Totalled (base_meaning base) (map value_meaning (take many values)) ss o → WithinLimits ss → Judged (base_meaning base) ss o
+judged base ss values many o known total limits =
+    let ks = map value_meaning (take many values) in
+    let js = bindings_mean (base_meaning base) [] ss in
+    let same = mean_same (take many values) js (known.means limits.denied limits.bindings) in
+    tally_judged (base_meaning base) ss o
+    (tally_as (Good (base_meaning base) ks) (Good (base_meaning base) js) (λ c. (good_as (base_meaning base) ks js same c, good_as (base_meaning base) js ks (same_all_sym ks js same) c)) (claims ss) o (total limits.checks))
