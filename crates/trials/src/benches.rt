@@ -75,13 +75,9 @@ fn a_fault_tells_its_number_and_no_place(rt: HostRuntime) {
 fn a_window_shows_one_location_also_through_another(rt: HostRuntime) -> Result<(), Fail> {
     let bench = small()?;
     assert!(rt; Window::new(&bench, 16).is_err());
-    let Ok(seen) = Window::new(&bench, 0) else {
-        return Err(Fail::new("refused"));
-    };
+    let seen = Window::new(&bench, 0).ok().ok_or("refused")?;
     assert_eq!(rt; seen.event(3), bench.event(3));
-    let Ok(none) = Window::new(seen, 1) else {
-        return Err(Fail::new("refused"));
-    };
+    let none = Window::new(seen, 1).ok().ok_or("refused")?;
     assert_eq!(rt; none.event(3), None);
     Ok(())
 }

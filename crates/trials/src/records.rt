@@ -7,10 +7,7 @@ use std::test::Fail;
 
 /// The fault of a record, if it has one.
 fn fault(bytes: &[u8]) -> Option<RecordFault> {
-    match Record::read(bytes) {
-        Ok(_) => None,
-        Err(fault) => Some(fault),
-    }
+    Record::read(bytes).err()
 }
 
 fn shape(place: usize) -> Option<RecordFault> {

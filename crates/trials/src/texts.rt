@@ -11,20 +11,22 @@ const SC: &[u8] =
 
 /// The fault of a text, if it has one.
 fn fault_of(heap: Global, text: &[u8]) -> Option<ReadFault> {
-    match lex(heap, text) {
-        Ok(_) => None,
-        Err(fault) => Some(fault),
-    }
+    lex(heap, text).err()
 }
 
-/// Checks that a byte of the text strays.
-fn strays(rt: &impl Abort, heap: Global, text: &[u8], place: usize) {
-    assert_eq!(rt; fault_of(heap, text), Some(ReadFault::Stray { place }));
+/// Checks that a byte of each text strays, at its place.
+fn stray(rt: &impl Abort, heap: Global, texts: &[(&[u8], usize)]) {
+    for (text, place) in texts {
+        assert_eq!(rt;
+            fault_of(heap, text),
+            Some(ReadFault::Stray { place: *place })
+        );
+    }
 }
 
 #[test]
 fn a_model_has_its_tokens(rt: HostRuntime) -> Result<(), Fail> {
-    let found = lex(Global::new(rt.memory()), SC)?;
+    let found = lex(rt.alloc(), SC)?;
     assert!(rt; found.len() == 22);
     assert_eq!(rt; found[1].place, 5);
     assert_eq!(rt; found[6].place, 17);
@@ -35,7 +37,7 @@ fn a_model_has_its_tokens(rt: HostRuntime) -> Result<(), Fail> {
 
 #[test]
 fn words_are_as_long_as_they_can_be(rt: HostRuntime) -> Result<(), Fail> {
-    let found = lex(Global::new(rt.memory()), b" let_ non-sc x.1 _a 0a{}")?;
+    let found = lex(rt.alloc(), b" let_ non-sc x.1 _a 0a{}")?;
     assert!(rt; found.len() == 8);
     assert!(rt; matches!(found[0].token, Token::Name(_)));
     assert_eq!(rt; found[0].place, 1);
@@ -49,19 +51,25 @@ fn words_are_as_long_as_they_can_be(rt: HostRuntime) -> Result<(), Fail> {
 
 #[test]
 fn what_begins_no_token_is_refused_at_its_place(rt: HostRuntime) {
-    let heap = Global::new(rt.memory());
-    strays(&rt, heap, b"(*)", 0);
-    strays(&rt, heap, b"a { }", 2);
-    strays(&rt, heap, b"r^- 1", 1);
-    strays(&rt, heap, b"a \"b", 2);
-    strays(&rt, heap, b"(**) 01", 6);
-    strays(&rt, heap, b"(**) 1", 5);
+    let heap = rt.alloc();
+    stray(
+        &rt,
+        heap,
+        &[
+            (b"(*)", 0),
+            (b"a { }", 2),
+            (b"r^- 1", 1),
+            (b"a \"b", 2),
+            (b"(**) 01", 6),
+            (b"(**) 1", 5),
+        ],
+    );
     assert_eq!(rt; fault_of(heap, b"(* (* *) *)"), None);
 }
 
 #[test]
 fn the_limits_are_told_in_their_order(rt: HostRuntime) {
-    let heap = Global::new(rt.memory());
+    let heap = rt.alloc();
     let mut bars = [b'|'; 1025];
     assert_eq!(rt;
         fault_of(heap, &bars),
@@ -69,8 +77,8 @@ fn the_limits_are_told_in_their_order(rt: HostRuntime) {
     );
     assert_eq!(rt; fault_of(heap, &bars[1..]), None);
     bars[1024] = b'!';
-    strays(&rt, heap, &bars, 1024);
+    stray(&rt, heap, &[(&bars, 1024)]);
     let many = [b'!'; 8193];
     assert_eq!(rt; fault_of(heap, &many), Some(ReadFault::TooLong));
-    strays(&rt, heap, &many[1..], 0);
+    stray(&rt, heap, &[(&many[1..], 0)]);
 }
