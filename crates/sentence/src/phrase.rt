@@ -42,7 +42,7 @@ fn group(heap: Global, sorts: &[Sort], at: usize) -> Result<Said, SentenceFault>
     let mut next = head.next;
     while and_at(sorts, next) {
         let bound = binding(heap, sorts, next + 1)?;
-        keep_binding(&mut more, bound.binding)?;
+        more.push(bound.binding)?;
         next = bound.next;
     }
     Ok(Said {

@@ -20,9 +20,9 @@ returns-in_err-bound c =
 
 pub loop-heap-preserved : goal.loop-heap-preserved
 loop-heap-preserved c =
-    grouping_more c.args.sorts.now c.args.at (tree_of c.in_ok-head.head.binding.tree) (trees_of (vec_items c.loop-heap.more)) (trees_of (vec_items c.keep_binding.new.items)) (tree_of c.in_ok-bound.bound.binding.tree) c.loop-heap.next c.in_ok-bound.bound.next
+    grouping_more c.args.sorts.now c.args.at (tree_of c.in_ok-head.head.binding.tree) (trees_of (vec_items c.loop-heap.more)) (trees_of (vec_items c.push.new.self)) (tree_of c.in_ok-bound.bound.binding.tree) c.loop-heap.next c.in_ok-bound.bound.next
     c.loop-heap.invariant (sym c.and_at.ensures ∙ c.loop-heap-test.true) c.in_ok-bound.ensures
-    (ap trees_of c.in_ok-keep_binding.ensures ∙ trees_last (vec_items c.loop-heap.more) c.in_ok-bound.bound.binding)
+    (ap trees_of c.in_ok-push.ensures.items ∙ trees_last (vec_items c.loop-heap.more) c.in_ok-bound.bound.binding)
 
 pub returns : goal.returns
 returns c =
