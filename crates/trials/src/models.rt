@@ -8,7 +8,7 @@ const SC: &[u8] = b"let fr = rf^-1;co acyclic po | rf | co | fr as sc";
 
 /// The number and place of a text's refusal; 0 and the number of checks for a text that is read.
 fn told(heap: Global, text: &[u8]) -> (u8, usize) {
-    let mut model = Model::new(heap);
+    let mut model = Model::new();
     match model.read(heap, text) {
         Ok(()) => (0, model.checks()),
         Err(fault) => match fault.refusal() {
@@ -282,7 +282,7 @@ fn models_are_read_with_their_checks(rt: HostRuntime) {
 #[test]
 fn a_text_is_read_in_place_of_the_last(rt: HostRuntime) {
     let heap = rt.alloc();
-    let mut model = Model::new(heap);
+    let mut model = Model::new();
     assert!(rt; !model.is_read());
     assert!(rt; model.read(heap, SC).is_ok());
     assert!(rt; model.is_read() & (model.checks() == 1) & (model.statements().len() == 2));
