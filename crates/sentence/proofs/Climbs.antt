@@ -4,7 +4,8 @@ use Rattle.std.proofs.lemmas.Bool.{leb-true, leb-false}
 use Rattle.sentence.specs.declared.sort.Sort.{Sort}
 use Rattle.sentence.specs.declared.fault.SentenceFault.{SentenceFault}
 use Rattle.sentence.specs.declared.fault.SentenceFault.TheVariants.{Memory, Place}
-use Rattle.sentence.specs.declared.piece.Piece.{Piece}
+use Rattle.sentence.specs.declared.placed.Placed.{Placed}
+use Rattle.sentence.specs.declared.tree.Expr.{Expr}
 use Rattle.sentence.specs.Trees.{Leaf, Bracket, Post, Infix, bar, semicolon, backslash, ampersand, product, Tree, atom, inside, tilde, ended, joined, rank, level, bound, Sentence}
 use Rattle.sentence.specs.Looks.{first_role, role_start, role_complements, role_closes, first_sign, first_post, sign_above}
 use Rattle.sentence.specs.Machine.{leaf, suffix, fill, asked, Wait, nothing, behind, tilded, Frame, Owner, operand, after, outcome}
@@ -201,10 +202,10 @@ climbing_done ts at n t next h e = record { loose = λ i f. below i (ap (sign_ab
         go false f e = leb-false n (rank i) f
 
 -- a fault that is handed on
-pub handed_on : (ts : List Sort) (at n m : ℕ) (r : Result Piece SentenceFault) (y f : SentenceFault) → r ≡ Err y → y ≡ f → Faulted ts at n f → Parsed ts at n m r
+pub handed_on : (ts : List Sort) (at n m : ℕ) (r : Result (Placed Expr) SentenceFault) (y f : SentenceFault) → r ≡ Err y → y ≡ f → Faulted ts at n f → Parsed ts at n m r
 handed_on ts at n m r y f e same h = subst (λ x. Parsed ts at n m x) (sym (e ∙ ap Err same)) h
 
-pub handed_halts : (ts : List Sort) (n : ℕ) (r : Result Piece SentenceFault) (y : SentenceFault) → r ≡ Err y → Halted ts n r
+pub handed_halts : (ts : List Sort) (n : ℕ) (r : Result (Placed Expr) SentenceFault) (y : SentenceFault) → r ≡ Err y → Halted ts n r
 handed_halts ts n r y e = subst (λ x. Halted ts n x) (sym e) tt
 
 -- what a look found, said of the sorts

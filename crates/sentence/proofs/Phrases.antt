@@ -6,8 +6,7 @@ use Rattle.sentence.specs.declared.fault.SentenceFault.{SentenceFault}
 use Rattle.sentence.specs.declared.fault.SentenceFault.TheVariants.{Memory, Place}
 use Rattle.sentence.specs.declared.statement.Binding as binding
 use Rattle.sentence.specs.declared.statement.Statement as statement
-use Rattle.sentence.specs.declared.part.Said.{Said}
-use Rattle.sentence.specs.declared.part.Bound.{Bound}
+use Rattle.sentence.specs.declared.placed.Placed.{Placed}
 use Rattle.sentence.specs.Trees.{Tree, Word, Mark, plain, binds, groups, checks, Sentence}
 use Rattle.sentence.specs.Looks.{first_role, role_complements, role_recs, role_ands, role_labels, role_equals, role_word, role_speech, role_name}
 use Rattle.sentence.specs.Machine.{Speech, lets, flags, words, fill, nothing, Binding, single, first, more, Owner, of_binding, of_check, State, ready, let_seen, name_due, equals_due, flag_seen, tilde_seen, label_due, operand, after, also, finish, grouped, labelling, marked, opening, told_on, feed, accept, outcome}
@@ -75,16 +74,16 @@ module _ (ts : List Sort) where
   unbound_tree at Memory e g h = tt
   unbound_tree at (Place k) e g h = λ p b. named at e p b ∙ equalled at g p b ∙ h p (of_binding b) [] nothing (omega arith)
 
-  pub unbound_on : (at : ℕ) (r : Result Bound SentenceFault) (y f : SentenceFault) → r ≡ Err y → y ≡ f → Unbound ts at f → Binds ts at r
+  pub unbound_on : (at : ℕ) (r : Result (Placed binding.Binding) SentenceFault) (y f : SentenceFault) → r ≡ Err y → y ≡ f → Unbound ts at f → Binds ts at r
   unbound_on at r y f e same h = subst (λ x. Binds ts at x) (sym (e ∙ ap Err same)) h
 
   -- one sort before what was stated
-  pub step_stated : (c d : Sentence → State) (at : ℕ) → ((p : Sentence) → outcome (c p) at (drop at ts) ≡ outcome (d p) (at + 1) (drop (at + 1) ts)) → (r : Result Said SentenceFault) → Stated d ts (at + 1) r → Stated c ts at r
+  pub step_stated : (c d : Sentence → State) (at : ℕ) → ((p : Sentence) → outcome (c p) at (drop at ts) ≡ outcome (d p) (at + 1) (drop (at + 1) ts)) → (r : Result (Placed statement.Statement) SentenceFault) → Stated d ts (at + 1) r → Stated c ts at r
   step_stated c d at e (Ok r) h = record { leads = λ p. e p ∙ h.leads p; past = omega (arith, h.past); within = h.within }
   step_stated c d at e (Err Memory) h = tt
   step_stated c d at e (Err (Place k)) h = λ p. e p ∙ h p
 
-  pub stuck_on : (c : Sentence → State) (at : ℕ) (r : Result Said SentenceFault) (y f : SentenceFault) → r ≡ Err y → y ≡ f → GetsStuck c ts at f → Stated c ts at r
+  pub stuck_on : (c : Sentence → State) (at : ℕ) (r : Result (Placed statement.Statement) SentenceFault) (y f : SentenceFault) → r ≡ Err y → y ≡ f → GetsStuck c ts at f → Stated c ts at r
   stuck_on c at r y f e same h = subst (λ x. Stated c ts at x) (sym (e ∙ ap Err same)) h
 
   -- what follows `let`

@@ -3,7 +3,8 @@ use Rattle.std.proofs.Common.{◌≡◌, ℕ, suc, ◌+◌, Bool, true, false, c
 use Rattle.sentence.specs.declared.sort.Sort.{Sort}
 use Rattle.sentence.specs.declared.sort.Sort.TheVariants.{Tilde}
 use Rattle.sentence.specs.declared.fault.SentenceFault.{SentenceFault}
-use Rattle.sentence.specs.declared.piece.Piece.{Piece}
+use Rattle.sentence.specs.declared.placed.Placed.{Placed}
+use Rattle.sentence.specs.declared.tree.Expr.{Expr}
 use Rattle.sentence.specs.Trees.{Leaf, name, universe, no_pairs, no_events, Bracket, round, square, Post, plus, closure, question, inverse, Infix, bar, semicolon, backslash, ampersand, product, Tree, atom, inside, tilde, ended, joined, open_sort, close_sort, post_sort, infix_sort, spell}
 use Rattle.sentence.specs.Roles.{role}
 use Rattle.sentence.specs.Seats.{leaf_role, places, Seated, SeatedAs}
@@ -91,5 +92,5 @@ seated_joined at i t r u ks js ls next end h g is same =
     })
 
 -- a fault has no places
-pub seated_fault : (at : ℕ) (r : Result Piece SentenceFault) (y : SentenceFault) → r ≡ Err y → SeatedAs at r
+pub seated_fault : (at : ℕ) (r : Result (Placed Expr) SentenceFault) (y : SentenceFault) → r ≡ Err y → SeatedAs at r
 seated_fault at r y e = subst (λ x. SeatedAs at x) (sym e) tt

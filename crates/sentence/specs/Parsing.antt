@@ -3,7 +3,8 @@ use Rattle.std.specs.Prelude.{◌≡◌, ℕ, ◌<◌, ◌≤◌, false, List, l
 use Rattle.sentence.specs.declared.sort.Sort.{Sort}
 use Rattle.sentence.specs.declared.fault.SentenceFault.{SentenceFault}
 use Rattle.sentence.specs.declared.fault.SentenceFault.TheVariants.{Memory, Place}
-use Rattle.sentence.specs.declared.piece.Piece.{Piece}
+use Rattle.sentence.specs.declared.placed.Placed.{Placed}
+use Rattle.sentence.specs.declared.tree.Expr.{Expr}
 use Rattle.sentence.specs.Roles.{opens}
 use Rattle.sentence.specs.Trees.{Tree, Bracket, Infix, rank, level, Sentence}
 use Rattle.sentence.specs.Looks.{first_role, role_complements, role_start, first_sign, first_post}
@@ -27,8 +28,8 @@ abbrev pub Faulted : List Sort → ℕ → ℕ → SentenceFault → Type 0
 Faulted ts at n Memory = Unit {0}
 Faulted ts at n (Place k) = StuckAt ts at n k
 
-abbrev pub Parsed : List Sort → ℕ → ℕ → ℕ → Result Piece SentenceFault → Type 0
-Parsed ts at n m (Ok r) = Led ts at n m (tree_of r.tree) r.next
+abbrev pub Parsed : List Sort → ℕ → ℕ → ℕ → Result (Placed Expr) SentenceFault → Type 0
+Parsed ts at n m (Ok r) = Led ts at n m (tree_of r.item) r.next
 Parsed ts at n m (Err f) = Faulted ts at n f
 
 -- what follows goes on with no sign behind and no infix sign as tight as n
@@ -36,7 +37,7 @@ pub record Halts (ts : List Sort) (n next : ℕ) : Type 0 where
   pub loose : (i : Infix) → first_sign (drop next ts) ≡ Some i → rank i < n
   pub bare : first_post (drop next ts) ≡ None
 
-abbrev pub Halted : List Sort → ℕ → Result Piece SentenceFault → Type 0
+abbrev pub Halted : List Sort → ℕ → Result (Placed Expr) SentenceFault → Type 0
 Halted ts n (Ok r) = Halts ts n r.next
 Halted ts n (Err f) = Unit {0}
 

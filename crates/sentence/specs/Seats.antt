@@ -4,7 +4,7 @@ use Rattle.sentence.specs.declared.sort.Sort.{Sort}
 use Rattle.sentence.specs.declared.fault.SentenceFault.{SentenceFault}
 use Rattle.sentence.specs.declared.tree.Expr.{Expr}
 use Rattle.sentence.specs.declared.tree.Expr.TheVariants.{Atom, Inside', Tilde', Ended', Joined'}
-use Rattle.sentence.specs.declared.piece.Piece.{Piece}
+use Rattle.sentence.specs.declared.placed.Placed.{Placed}
 use Rattle.sentence.specs.Trees.{Tree, spell}
 use Rattle.sentence.specs.Roles.{leaf, opens, Role, starts, goes, complements, speaks, role}
 use Rattle.sentence.specs.Exprs.{tree_of}
@@ -40,6 +40,6 @@ pub record Seated (at : ℕ) (t : Tree) (ks : List ℕ) (next : ℕ) : Type 0 wh
   pub spans : next ≡ at + length (spell t)
   pub seats : ks ≡ places at (spell t)
 
-abbrev pub SeatedAs : ℕ → Result Piece SentenceFault → Type 0
-SeatedAs at (Ok r) = Seated at (tree_of r.tree) (seats_of r.tree) r.next
+abbrev pub SeatedAs : ℕ → Result (Placed Expr) SentenceFault → Type 0
+SeatedAs at (Ok r) = Seated at (tree_of r.item) (seats_of r.item) r.next
 SeatedAs at (Err f) = Unit {0}

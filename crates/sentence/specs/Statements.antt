@@ -9,8 +9,7 @@ use Rattle.sentence.specs.declared.statement.Mark.TheVariants.{Plain, Labelled, 
 use Rattle.sentence.specs.declared.statement.Statement as statement
 use Rattle.sentence.specs.declared.statement.Statement.TheVariants.{Let, Group, Check}
 use Rattle.sentence.specs.declared.statement.Sentence as sentence
-use Rattle.sentence.specs.declared.part.Said.{Said}
-use Rattle.sentence.specs.declared.part.Bound.{Bound}
+use Rattle.sentence.specs.declared.placed.Placed.{Placed}
 use Rattle.sentence.specs.Trees.{Tree, Mark, plain, labelled, flagged, Statement, binds, groups, checks, Sentence}
 use Rattle.sentence.specs.Machine.{Binding, of_binding, State, ready, name_due, after, also, outcome}
 use Rattle.sentence.specs.Parsing.{Halts}
@@ -48,8 +47,8 @@ abbrev pub GetsStuck : (Sentence → State) → List Sort → ℕ → SentenceFa
 GetsStuck c ts at Memory = Unit {0}
 GetsStuck c ts at (Place k) = (p : Sentence) → outcome (c p) at (drop at ts) ≡ Err k
 
-abbrev pub Stated : (Sentence → State) → List Sort → ℕ → Result Said SentenceFault → Type 0
-Stated c ts at (Ok r) = GoesOn c ts at (statement_of r.statement) r.next
+abbrev pub Stated : (Sentence → State) → List Sort → ℕ → Result (Placed statement.Statement) SentenceFault → Type 0
+Stated c ts at (Ok r) = GoesOn c ts at (statement_of r.item) r.next
 Stated c ts at (Err f) = GetsStuck c ts at f
 
 -- a binding, whosever it is
@@ -63,6 +62,6 @@ abbrev pub Unbound : List Sort → ℕ → SentenceFault → Type 0
 Unbound ts at Memory = Unit {0}
 Unbound ts at (Place k) = (p : Sentence) (b : Binding) → outcome (name_due p b) at (drop at ts) ≡ Err k
 
-abbrev pub Binds : List Sort → ℕ → Result Bound SentenceFault → Type 0
-Binds ts at (Ok r) = GoesBound ts at (tree_of r.binding.tree) r.next
+abbrev pub Binds : List Sort → ℕ → Result (Placed binding.Binding) SentenceFault → Type 0
+Binds ts at (Ok r) = GoesBound ts at (tree_of r.item.tree) r.next
 Binds ts at (Err f) = Unbound ts at f

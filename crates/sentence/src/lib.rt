@@ -5,9 +5,8 @@ pub mod fault;
 pub mod law;
 pub mod look;
 pub mod parse;
-pub mod part;
 pub mod phrase;
-pub mod piece;
+pub mod placed;
 pub mod role;
 pub mod sign;
 pub mod sort;
@@ -16,6 +15,7 @@ pub mod text;
 pub mod tree;
 
 pub use fault::SentenceFault;
+pub use placed::Placed;
 pub use sort::Sort;
 pub use statement::{Sentence, Statement};
 pub use text::read;

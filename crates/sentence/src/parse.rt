@@ -7,7 +7,7 @@ ghost use Rattle.sentence.specs.Parsing.{Parsed, Halted, Unprefixed, Opened};
 
 use super::fault::SentenceFault;
 use super::look::*;
-use super::piece::Piece;
+use super::placed::Placed;
 use super::role::Start;
 use super::sign::Bracket;
 use super::sort::Sort;
@@ -21,34 +21,34 @@ pub(crate) fn ladder(
     sorts: &[Sort],
     at: usize,
     rung: u8,
-) -> Result<Piece, SentenceFault>
+) -> Result<Placed<Expr>, SentenceFault>
     ensures led { Parsed sorts.now at rung 0 result }
     ensures halts { Halted sorts.now rung result }
     ensures seated { SeatedAs at result }
 {
     let first = prefixed(heap, sorts, at)?;
-    let mut tree = first.tree;
+    let mut tree = first.item;
     let mut next = first.next;
     while let Some(sign) = infix_from(sorts, next, rung) {
         let right = ladder(heap, sorts, next + 1, bound(sign))?;
-        tree = joined(heap, sign, tree, right.tree)?;
+        tree = joined(heap, sign, tree, right.item)?;
         next = right.next;
     }
-    Ok(Piece { tree, next })
+    Ok(Placed { item: tree, next })
 }
 
 /// An expression without infix signs.
 #[cycle(atom_between_ladder_postfixed_prefixed)]
-fn prefixed(heap: Global, sorts: &[Sort], at: usize) -> Result<Piece, SentenceFault>
+fn prefixed(heap: Global, sorts: &[Sort], at: usize) -> Result<Placed<Expr>, SentenceFault>
     ensures led { Parsed sorts.now at 7 6 result }
     ensures halts { Halted sorts.now 7 result }
     ensures seated { SeatedAs at result }
 {
     if complements_at(sorts, at) {
         let piece = prefixed(heap, sorts, at + 1)?;
-        let tree = complement(heap, piece.tree)?;
-        Ok(Piece {
-            tree,
+        let tree = complement(heap, piece.item)?;
+        Ok(Placed {
+            item: tree,
             next: piece.next,
         })
     } else {
@@ -58,25 +58,25 @@ fn prefixed(heap: Global, sorts: &[Sort], at: usize) -> Result<Piece, SentenceFa
 
 /// An atom and the signs behind it.
 #[cycle(atom_between_ladder_postfixed_prefixed)]
-fn postfixed(heap: Global, sorts: &[Sort], at: usize) -> Result<Piece, SentenceFault>
+fn postfixed(heap: Global, sorts: &[Sort], at: usize) -> Result<Placed<Expr>, SentenceFault>
     requires { Unprefixed sorts.now at }
     ensures led { Parsed sorts.now at 7 7 result }
     ensures halts { Halted sorts.now 7 result }
     ensures seated { SeatedAs at result }
 {
     let first = atom(heap, sorts, at)?;
-    let mut tree = first.tree;
+    let mut tree = first.item;
     let mut next = first.next;
     while let Some(sign) = post_at(sorts, next) {
         tree = ended(heap, tree, sign)?;
         next += 1;
     }
-    Ok(Piece { tree, next })
+    Ok(Placed { item: tree, next })
 }
 
 /// A leaf, or an expression in brackets.
 #[cycle(atom_between_ladder_postfixed_prefixed)]
-fn atom(heap: Global, sorts: &[Sort], at: usize) -> Result<Piece, SentenceFault>
+fn atom(heap: Global, sorts: &[Sort], at: usize) -> Result<Placed<Expr>, SentenceFault>
     requires { Unprefixed sorts.now at }
     ensures led { Parsed sorts.now at 7 7 result }
     ensures seated { SeatedAs at result }
@@ -85,8 +85,8 @@ fn atom(heap: Global, sorts: &[Sort], at: usize) -> Result<Piece, SentenceFault>
         return Err(SentenceFault::Place(at));
     };
     match start {
-        Start::Leaf(leaf) => Ok(Piece {
-            tree: Expr::Atom(leaf, at),
+        Start::Leaf(leaf) => Ok(Placed {
+            item: Expr::Atom(leaf, at),
             next: at + 1,
         }),
         Start::Opens(bracket) => between(heap, sorts, at, bracket),
@@ -100,16 +100,16 @@ fn between(
     sorts: &[Sort],
     at: usize,
     bracket: Bracket,
-) -> Result<Piece, SentenceFault>
+) -> Result<Placed<Expr>, SentenceFault>
     requires { Opened sorts.now at bracket }
     ensures led { Parsed sorts.now at 7 7 result }
     ensures seated { SeatedAs at result }
 {
     let piece = ladder(heap, sorts, at + 1, 1)?;
     if closes_at(sorts, piece.next, bracket) {
-        let tree = bracketed(heap, bracket, piece.tree)?;
-        Ok(Piece {
-            tree,
+        let tree = bracketed(heap, bracket, piece.item)?;
+        Ok(Placed {
+            item: tree,
             next: piece.next + 1,
         })
     } else {

@@ -6,7 +6,7 @@ ghost use Rattle.sentence.specs.Statements.{Stated, Binds, mark_of};
 use super::fault::SentenceFault;
 use super::look::*;
 use super::parse::ladder;
-use super::part::{Bound, Said};
+use super::placed::Placed;
 use super::role::Speech;
 use super::sign::Word;
 use super::sort::Sort;
@@ -14,7 +14,7 @@ use super::statement::*;
 use std::alloc::Global;
 
 /// A binding: a name, `=` and an expression.
-fn binding(heap: Global, sorts: &[Sort], at: usize) -> Result<Bound, SentenceFault>
+fn binding(heap: Global, sorts: &[Sort], at: usize) -> Result<Placed<Binding>, SentenceFault>
     ensures { Binds sorts.now at result }
 {
     if !name_at(sorts, at) {
@@ -24,17 +24,17 @@ fn binding(heap: Global, sorts: &[Sort], at: usize) -> Result<Bound, SentenceFau
         return Err(SentenceFault::Place(at + 1));
     }
     let piece = ladder(heap, sorts, at + 2, 1)?;
-    Ok(Bound {
-        binding: Binding {
+    Ok(Placed {
+        item: Binding {
             name: at,
-            tree: piece.tree,
+            tree: piece.item,
         },
         next: piece.next,
     })
 }
 
 /// The bindings of a group, behind `let rec`.
-fn group(heap: Global, sorts: &[Sort], at: usize) -> Result<Said, SentenceFault>
+fn group(heap: Global, sorts: &[Sort], at: usize) -> Result<Placed<Statement>, SentenceFault>
     ensures { Stated (λ p. name_due p first) sorts.now at result }
 {
     let head = binding(heap, sorts, at)?;
@@ -42,25 +42,25 @@ fn group(heap: Global, sorts: &[Sort], at: usize) -> Result<Said, SentenceFault>
     let mut next = head.next;
     while and_at(sorts, next) {
         let bound = binding(heap, sorts, next + 1)?;
-        keep_binding(&mut more, bound.binding)?;
+        more.push(bound.item)?;
         next = bound.next;
     }
-    Ok(Said {
-        statement: Statement::Group(head.binding, more),
+    Ok(Placed {
+        item: Statement::Group(head.item, more),
         next,
     })
 }
 
 /// What follows `let`.
-fn binds(heap: Global, sorts: &[Sort], at: usize) -> Result<Said, SentenceFault>
+fn binds(heap: Global, sorts: &[Sort], at: usize) -> Result<Placed<Statement>, SentenceFault>
     ensures { Stated (λ p. let_seen p) sorts.now at result }
 {
     if rec_at(sorts, at) {
         return group(heap, sorts, at + 1);
     }
     let bound = binding(heap, sorts, at)?;
-    Ok(Said {
-        statement: Statement::Let(bound.binding),
+    Ok(Placed {
+        item: Statement::Let(bound.item),
         next: bound.next,
     })
 }
@@ -84,19 +84,19 @@ fn claim(
     flag: bool,
     negated: bool,
     word: Word,
-) -> Result<Said, SentenceFault>
+) -> Result<Placed<Statement>, SentenceFault>
     ensures { Stated (λ p. operand p (of_check flag negated word) [] nothing) sorts.now at result }
 {
     let piece = ladder(heap, sorts, at, 1)?;
     if label_at(sorts, piece.next) {
         if name_at(sorts, piece.next + 1) {
             let mark = labelled(flag, piece.next + 1);
-            return Ok(Said {
-                statement: Statement::Check(Check {
+            return Ok(Placed {
+                item: Statement::Check(Check {
                     mark,
                     negated,
                     word,
-                    tree: piece.tree,
+                    tree: piece.item,
                 }),
                 next: piece.next + 2,
             });
@@ -106,19 +106,24 @@ fn claim(
     if flag {
         return Err(SentenceFault::Place(piece.next));
     }
-    Ok(Said {
-        statement: Statement::Check(Check {
+    Ok(Placed {
+        item: Statement::Check(Check {
             mark: Mark::Plain,
             negated,
             word,
-            tree: piece.tree,
+            tree: piece.item,
         }),
         next: piece.next,
     })
 }
 
 /// What follows the `~` of a check.
-fn denial(heap: Global, sorts: &[Sort], at: usize, flag: bool) -> Result<Said, SentenceFault>
+fn denial(
+    heap: Global,
+    sorts: &[Sort],
+    at: usize,
+    flag: bool,
+) -> Result<Placed<Statement>, SentenceFault>
     ensures { Stated (λ p. tilde_seen p flag) sorts.now at result }
 {
     let Some(word) = word_at(sorts, at) else {
@@ -128,7 +133,7 @@ fn denial(heap: Global, sorts: &[Sort], at: usize, flag: bool) -> Result<Said, S
 }
 
 /// What follows `flag`.
-fn warning(heap: Global, sorts: &[Sort], at: usize) -> Result<Said, SentenceFault>
+fn warning(heap: Global, sorts: &[Sort], at: usize) -> Result<Placed<Statement>, SentenceFault>
     ensures { Stated (λ p. flag_seen p) sorts.now at result }
 {
     if complements_at(sorts, at) {
@@ -141,7 +146,11 @@ fn warning(heap: Global, sorts: &[Sort], at: usize) -> Result<Said, SentenceFaul
 }
 
 /// A statement.
-pub(crate) fn statement(heap: Global, sorts: &[Sort], at: usize) -> Result<Said, SentenceFault>
+pub(crate) fn statement(
+    heap: Global,
+    sorts: &[Sort],
+    at: usize,
+) -> Result<Placed<Statement>, SentenceFault>
     requires { at < length sorts.now }
     ensures { Stated (λ p. ready p) sorts.now at result }
 {

@@ -1,8 +1,4 @@
 //! Statements and sentences.
-ghost use Rattle.std.specs.Prelude.{◌≡◌, [], ◌∷◌, ◌++◌, MatchResult};
-ghost use Rattle.sentence.specs.declared.fault.SentenceFault.TheVariants.{Memory};
-
-use super::fault::SentenceFault;
 use super::sign::Word;
 use super::tree::Expr;
 
@@ -43,27 +39,4 @@ pub enum Statement {
 pub struct Sentence {
     pub titled: bool,
     pub statements: Vec<Statement>,
-}
-
-/// One more binding of a group.
-pub(crate) fn keep_binding(items: &mut Vec<Binding>, item: Binding) -> Result<(), SentenceFault>
-    ensures { MatchResult result (λ _. items.new.items ≡ items.old.items ++ (item ∷ [])) (λ f. f ≡ Memory) }
-{
-    match items.push(item) {
-        Ok(_) => Ok(()),
-        Err(_) => Err(SentenceFault::Memory),
-    }
-}
-
-/// One more statement.
-pub(crate) fn keep_statement(
-    items: &mut Vec<Statement>,
-    item: Statement,
-) -> Result<(), SentenceFault>
-    ensures { MatchResult result (λ _. items.new.items ≡ items.old.items ++ (item ∷ [])) (λ f. f ≡ Memory) }
-{
-    match items.push(item) {
-        Ok(_) => Ok(()),
-        Err(_) => Err(SentenceFault::Memory),
-    }
 }

@@ -26,7 +26,7 @@ pub fn read(heap: Global, sorts: &[Sort]) -> Result<Sentence, SentenceFault>
     let mut statements: Vec<Statement> = Vec::new(heap);
     while at < sorts.len() {
         let said = statement(heap, sorts, at)?;
-        keep_statement(&mut statements, said.statement)?;
+        statements.push(said.item)?;
         at = said.next;
     }
     Ok(Sentence { titled, statements })

@@ -1,6 +1,5 @@
 //! Expressions, grouped.
-ghost use Rattle.std.specs.Prelude.{◌≡◌, ◌++◌, MatchResult};
-ghost use Rattle.sentence.specs.declared.fault.SentenceFault.TheVariants.{Memory};
+ghost use Rattle.std.specs.Prelude.{◌++◌};
 ghost use Rattle.sentence.specs.Trees.{inside, tilde, ended, joined};
 ghost use Rattle.sentence.specs.Exprs.{tree_of, Made};
 ghost use Rattle.sentence.specs.Seats.{seats_of, KeepsSeats};
@@ -19,25 +18,12 @@ pub enum Expr {
     Joined(Infix, Box<Expr>, Box<Expr>),
 }
 
-/// An expression in a place of its own.
-fn boxed(heap: Global, e: Expr) -> Result<Box<Expr>, SentenceFault>
-    ensures { MatchResult result (λ b. b.value ≡ e) (λ f. f ≡ Memory) }
-{
-    match Box::new(heap, e) {
-        Ok(b) => Ok(b),
-        Err(_) => Err(SentenceFault::Memory),
-    }
-}
-
 /// An expression in brackets.
 pub(crate) fn bracketed(heap: Global, bracket: Bracket, e: Expr) -> Result<Expr, SentenceFault>
     ensures made { Made result (inside bracket (tree_of e)) }
     ensures seats { KeepsSeats result (seats_of e) }
 {
-    match boxed(heap, e) {
-        Ok(b) => Ok(Expr::Inside(bracket, b)),
-        Err(f) => Err(f),
-    }
+    Ok(Expr::Inside(bracket, Box::new(heap, e)?))
 }
 
 /// An expression behind the prefix.
@@ -45,10 +31,7 @@ pub(crate) fn complement(heap: Global, e: Expr) -> Result<Expr, SentenceFault>
     ensures made { Made result (tilde (tree_of e)) }
     ensures seats { KeepsSeats result (seats_of e) }
 {
-    match boxed(heap, e) {
-        Ok(b) => Ok(Expr::Tilde(b)),
-        Err(f) => Err(f),
-    }
+    Ok(Expr::Tilde(Box::new(heap, e)?))
 }
 
 /// An expression and a sign behind it.
@@ -56,10 +39,7 @@ pub(crate) fn ended(heap: Global, e: Expr, sign: Post) -> Result<Expr, SentenceF
     ensures made { Made result (ended (tree_of e) sign) }
     ensures seats { KeepsSeats result (seats_of e) }
 {
-    match boxed(heap, e) {
-        Ok(b) => Ok(Expr::Ended(b, sign)),
-        Err(f) => Err(f),
-    }
+    Ok(Expr::Ended(Box::new(heap, e)?, sign))
 }
 
 /// Two expressions and the sign between them.
@@ -72,12 +52,7 @@ pub(crate) fn joined(
     ensures made { Made result (joined sign (tree_of left) (tree_of right)) }
     ensures seats { KeepsSeats result (seats_of left ++ seats_of right) }
 {
-    let l = match boxed(heap, left) {
-        Ok(l) => l,
-        Err(f) => return Err(f),
-    };
-    match boxed(heap, right) {
-        Ok(r) => Ok(Expr::Joined(sign, l, r)),
-        Err(f) => Err(f),
-    }
+    let left = Box::new(heap, left)?;
+    let right = Box::new(heap, right)?;
+    Ok(Expr::Joined(sign, left, right))
 }

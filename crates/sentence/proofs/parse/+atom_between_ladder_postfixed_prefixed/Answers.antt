@@ -46,23 +46,23 @@ between-returns-in_err-piece t c =
 pub between-returns-in_ok-tree : goal.between-returns-in_ok-tree
 between-returns-in_ok-tree t c =
     record {
-      led = led_between c.args.sorts.now c.args.at c.args.bracket 0 (tree_of c.in_ok-piece.piece.tree) (tree_of c.in_ok-tree.tree) c.in_ok-piece.piece.next
+      led = led_between c.args.sorts.now c.args.at c.args.bracket 0 (tree_of c.in_ok-piece.piece.item) (tree_of c.in_ok-tree.tree) c.in_ok-piece.piece.next
           c.requires c.in_ok-piece.ensures.led (sym c.closes_at.ensures ∙ c.if-closes_at.true) c.in_ok-tree.ensures.made;
-      seated = seated_inside c.args.at c.args.bracket (tree_of c.in_ok-piece.piece.tree) (tree_of c.in_ok-tree.tree) (seats_of c.in_ok-piece.piece.tree) (seats_of c.in_ok-tree.tree) c.in_ok-piece.piece.next
+      seated = seated_inside c.args.at c.args.bracket (tree_of c.in_ok-piece.piece.item) (tree_of c.in_ok-tree.tree) (seats_of c.in_ok-piece.piece.item) (seats_of c.in_ok-tree.tree) c.in_ok-piece.piece.next
           c.in_ok-piece.ensures.seated c.in_ok-tree.ensures.made c.in_ok-tree.ensures.seats;
     }
 
 pub between-returns-else-closes_at : goal.between-returns-else-closes_at
 between-returns-else-closes_at t c =
     record {
-      led = stuck_between c.args.sorts.now c.args.at c.args.bracket 0 (tree_of c.in_ok-piece.piece.tree) c.in_ok-piece.piece.next
+      led = stuck_between c.args.sorts.now c.args.at c.args.bracket 0 (tree_of c.in_ok-piece.piece.item) c.in_ok-piece.piece.next
           c.requires c.in_ok-piece.ensures.led c.in_ok-piece.ensures.halts (sym c.closes_at.ensures ∙ c.if-closes_at.false);
       seated = tt;
     }
 
 pub ladder-loop-sign-init : goal.ladder-loop-sign-init
 ladder-loop-sign-init t c = (
-  climbing_first c.args.sorts.now c.args.at c.args.rung (tree_of c.in_ok-first.first.tree) c.in_ok-first.first.next
+  climbing_first c.args.sorts.now c.args.at c.args.rung (tree_of c.in_ok-first.first.item) c.in_ok-first.first.next
       c.in_ok-first.ensures.led c.in_ok-first.ensures.halts,
   c.in_ok-first.ensures.seated,
 )
@@ -97,9 +97,9 @@ ladder-loop-sign-smaller t c =
 
 pub ladder-loop-sign-preserved : goal.ladder-loop-sign-preserved
 ladder-loop-sign-preserved t c = (
-  climbing_more c.args.sorts.now c.args.at c.args.rung (tree_of c.loop-sign.tree) c.loop-sign.next c.in-Some.sign c.bound.result (tree_of c.in_ok-right.right.tree) (tree_of c.in_ok-tree.tree) c.in_ok-right.right.next
+  climbing_more c.args.sorts.now c.args.at c.args.rung (tree_of c.loop-sign.tree) c.loop-sign.next c.in-Some.sign c.bound.result (tree_of c.in_ok-right.right.item) (tree_of c.in_ok-tree.tree) c.in_ok-right.right.next
       c.loop-sign.invariant.0 (sym c.infix_from.ensures ∙ c.in-Some.is) c.bound.ensures c.in_ok-right.ensures.led c.in_ok-right.ensures.halts c.in_ok-tree.ensures.made,
-  seated_joined c.args.at c.in-Some.sign (tree_of c.loop-sign.tree) (tree_of c.in_ok-right.right.tree) (tree_of c.in_ok-tree.tree) (seats_of c.loop-sign.tree) (seats_of c.in_ok-right.right.tree) (seats_of c.in_ok-tree.tree) c.loop-sign.next c.in_ok-right.right.next
+  seated_joined c.args.at c.in-Some.sign (tree_of c.loop-sign.tree) (tree_of c.in_ok-right.right.item) (tree_of c.in_ok-tree.tree) (seats_of c.loop-sign.tree) (seats_of c.in_ok-right.right.item) (seats_of c.in_ok-tree.tree) c.loop-sign.next c.in_ok-right.right.next
       c.loop-sign.invariant.1 c.in_ok-right.ensures.seated c.in_ok-tree.ensures.made c.in_ok-tree.ensures.seats,
 )
 
@@ -158,9 +158,9 @@ prefixed-returns-in_err-piece t c =
 pub prefixed-returns-in_ok-tree : goal.prefixed-returns-in_ok-tree
 prefixed-returns-in_ok-tree t c =
     record {
-      led = led_prefix c.args.sorts.now c.args.at (tree_of c.in_ok-piece.piece.tree) (tree_of c.in_ok-tree.tree) c.in_ok-piece.piece.next
+      led = led_prefix c.args.sorts.now c.args.at (tree_of c.in_ok-piece.piece.item) (tree_of c.in_ok-tree.tree) c.in_ok-piece.piece.next
           (sym c.complements_at.ensures ∙ c.if-complements_at.true) c.in_ok-piece.ensures.led c.in_ok-tree.ensures.made;
       halts = c.in_ok-piece.ensures.halts;
-      seated = seated_tilde c.args.at (tree_of c.in_ok-piece.piece.tree) (tree_of c.in_ok-tree.tree) (seats_of c.in_ok-piece.piece.tree) (seats_of c.in_ok-tree.tree) c.in_ok-piece.piece.next
+      seated = seated_tilde c.args.at (tree_of c.in_ok-piece.piece.item) (tree_of c.in_ok-tree.tree) (seats_of c.in_ok-piece.piece.item) (seats_of c.in_ok-tree.tree) c.in_ok-piece.piece.next
           c.in_ok-piece.ensures.seated c.in_ok-tree.ensures.made c.in_ok-tree.ensures.seats;
     }

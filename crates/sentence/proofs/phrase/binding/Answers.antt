@@ -33,5 +33,5 @@ returns-in_err-piece c =
 
 pub returns : goal.returns
 returns c =
-    goes_bound c.args.sorts.now c.args.at (tree_of c.in_ok-piece.piece.tree) c.in_ok-piece.piece.next (sym c.name_at.ensures ∙ c.if-not-name_at.false) (sym c.equals_at.ensures ∙ c.if-not-equals_at.false)
+    goes_bound c.args.sorts.now c.args.at (tree_of c.in_ok-piece.piece.item) c.in_ok-piece.piece.next (sym c.name_at.ensures ∙ c.if-not-name_at.false) (sym c.equals_at.ensures ∙ c.if-not-equals_at.false)
     c.in_ok-piece.ensures.led c.in_ok-piece.ensures.halts

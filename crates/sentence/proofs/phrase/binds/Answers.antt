@@ -22,4 +22,4 @@ returns-in_err-bound c =
 
 pub returns : goal.returns
 returns c =
-    goes_let c.args.sorts.now c.args.at (tree_of c.in_ok-bound.bound.binding.tree) c.in_ok-bound.bound.next (sym c.rec_at.ensures ∙ c.if-rec_at.false) c.in_ok-bound.ensures
+    goes_let c.args.sorts.now c.args.at (tree_of c.in_ok-bound.bound.item.tree) c.in_ok-bound.bound.next (sym c.rec_at.ensures ∙ c.if-rec_at.false) c.in_ok-bound.ensures

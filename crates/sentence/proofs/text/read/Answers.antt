@@ -14,8 +14,8 @@ returns-in_err-said c =
 
 pub loop-at-preserved : goal.loop-at-preserved
 loop-at-preserved c =
-    reading_more c.args.sorts.now c.title_at-titled.result (vec_items c.loop-at.statements) (vec_items c.keep_statement.new.items) c.in_ok-said.said.statement c.loop-at.at c.in_ok-said.said.next
-    c.loop-at.invariant c.in_ok-said.ensures c.in_ok-keep_statement.ensures
+    reading_more c.args.sorts.now c.title_at-titled.result (vec_items c.loop-at.statements) (vec_items c.push.new.self) c.in_ok-said.said.item c.loop-at.at c.in_ok-said.said.next
+    c.loop-at.invariant c.in_ok-said.ensures c.in_ok-push.ensures.items
 
 pub returns : goal.returns
 returns c = reading_done c.args.sorts.now c.title_at-titled.result (vec_items c.loop-at.statements) c.loop-at.at c.loop-at.invariant c.loop-at-test.false
