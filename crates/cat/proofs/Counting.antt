@@ -36,27 +36,30 @@ pub record Counting (ts : List Sort) (k : ℕ) (t : Tally) : Type 0 where
   pub few : sum t ≤ k
   pub below : (j : ℕ) → j < k → over ts j ≡ false
 
-pub counting_first : (ts : List Sort) → Counting ts 0 nothing_counted
+pub counting_first : (ts : List Sort) (t : Tally) → t.equals ≡ 0 → t.words ≡ 0 → t.opened ≡ 0 → t.closed ≡ 0 → Counting ts 0 t
 unfolding tally
-counting_first ts = record { is = refl; few = omega arith; below = below_none (λ j. over ts j ≡ false) }
+counting_first ts t e w o c = record { is = none t.equals t.words t.opened t.closed e w o c; few = omega arith; below = below_none (λ j. over ts j ≡ false) }
+  where
+    none : (a b c d : ℕ) → a ≡ 0 → b ≡ 0 → c ≡ 0 → d ≡ 0 → record { equals = a; words = b; opened = c; closed = d } ≡ nothing_counted
+    none a b c d e f g h = cc
 
 -- what is asked at a token
 over_here : (ts : List Sort) (k : ℕ) (t : Tally) (c n : Class) (b : Bool) → Counting ts k t → c ≡ first_class (drop k ts) → n ≡ first_class (drop (k + 1) ts) → b ≡ past c n t → over ts k ≡ b
 unfolding over
 over_here ts k t c n b h e f g = let i = h.is in cc
 
-pub counting_more : (ts : List Sort) (k : ℕ) (t u : Tally) (c n : Class) → Counting ts k t → k < length ts → c ≡ first_class (drop k ts) → n ≡ first_class (drop (k + 1) ts) → past c n t ≡ false → u ≡ counted t c → Counting ts (k + 1) u
+pub counting_more : (ts : List Sort) (k : ℕ) (t u : Tally) (c n : Class) → Counting ts k t → k < length ts → c ≡ class (get_or ts k sort.Name) → n ≡ first_class (drop (k + 1) ts) → past c n t ≡ false → u ≡ counted t c → Counting ts (k + 1) u
 counting_more ts k t u c n h lt e f g is =
     record {
       is =
-          is ∙ ap (λ x. counted x c) h.is ∙ ap (counted (tally nothing_counted (take k ts))) (e ∙ class_here ts k sort.Name lt)
+          is ∙ ap (λ x. counted x c) h.is ∙ ap (counted (tally nothing_counted (take k ts))) e
           ∙ sym (tally_last nothing_counted (take k ts) (get_or ts k sort.Name)) ∙ ap (tally nothing_counted) (sym (take_more ts k sort.Name lt));
       few = subst (λ x. sum x ≤ k + 1) (sym is) (let m = sum_more t c in let w = h.few in omega arith);
-      below = below_more (λ j. over ts j ≡ false) k h.below (over_here ts k t c n false h e f (sym g));
+      below = below_more (λ j. over ts j ≡ false) k h.below (over_here ts k t c n false h (e ∙ sym (class_here ts k sort.Name lt)) f (sym g));
     }
 
-pub counting_over : (ts : List Sort) (k : ℕ) (t : Tally) (c n : Class) → Counting ts k t → c ≡ first_class (drop k ts) → n ≡ first_class (drop (k + 1) ts) → past c n t ≡ true → FirstOver ts k
-counting_over ts k t c n h e f g = record { here = over_here ts k t c n true h e f (sym g); before = h.below }
+pub counting_over : (ts : List Sort) (k : ℕ) (t : Tally) (c n : Class) → Counting ts k t → k < length ts → c ≡ class (get_or ts k sort.Name) → n ≡ first_class (drop (k + 1) ts) → past c n t ≡ true → FirstOver ts k
+counting_over ts k t c n h lt e f g = record { here = over_here ts k t c n true h (e ∙ sym (class_here ts k sort.Name lt)) f (sym g); before = h.below }
 
 -- behind the end nothing is past a limit
 over_past : (ts : List Sort) (k : ℕ) → length ts ≤ k → over ts k ≡ false

@@ -1,11 +1,13 @@
 -- The latest binding of a name, and what is given under one. Assumes nothing.
-use Rattle.std.proofs.Common.{◌≡◌, ℕ, zero, suc, ◌+◌, ◌<◌, Bool, true, false, cond, ◌⊎◌, List, [], ◌∷◌, Some, None, Option, sym, refl, ap, ◌∙◌, subst, inl, inr, arith}
+use Rattle.std.proofs.Common.{◌≡◌, ℕ, zero, suc, ◌+◌, ◌<◌, Bool, true, false, cond, ◌⊎◌, List, [], ◌∷◌, map, length, get_or, Some, None, Option, sym, refl, ap, ◌∙◌, subst, inl, inr, ⊎_elim, arith}
+use Rattle.std.proofs.lemmas.Bool.{cases_order}
 use borrow.Author.Tests.{clash}
 use Rattle.std.specs.Str.{bytes_eq}
 use Rattle.std.proofs.lemmas.Slice.Eq.{bytes_eq-Decides}
 use Rattle.finite.specs.Lists.{In, At}
 use Rattle.term.specs.declared.term.Given.{Given}
-use Rattle.cat.specs.Scopes.{beside, given_as, given_names, latest_from, latest, Refers}
+use Rattle.cat.specs.Sorts.{Tokens}
+use Rattle.cat.specs.Scopes.{name_at, names_of, beside, given_as, given_names, latest_from, latest, Refers}
 use Rattle.cat.specs.Laws.{LatestBinding, GivenOnce}
 
 -- the name stands in the list last at this place
@@ -56,6 +58,41 @@ latest_binding n names = told (latest n names) (found n 0 names None)
     told : (r : Option ℕ) → Found n 0 names None r → Refers n names r
     told r (inl (j, is, last)) = subst (Refers n names) (sym (is ∙ ap Some (let z : 0 + j ≡ j = omega arith in z))) (last.here, last.none)
     told r (inr (is, none)) = subst (Refers n names) (sym is) none
+
+-- only one number is
+refers_one : (n : List ℕ) (names : List (List ℕ)) (r s : Option ℕ) → Refers n names r → Refers n names s → r ≡ s
+refers_one n names None None h g = refl
+refers_one n names None (Some k) h g = absurd (h k g.0)
+refers_one n names (Some j) None h g = absurd (g j h.0)
+refers_one n names (Some j) (Some k) h g = ap Some (⊎_elim (λ e. e) (⊎_elim (λ lt. absurd (h.1 k lt g.0)) (λ lt. absurd (g.1 j lt h.0))) (cases_order j k))
+
+-- what stands at a place of a mapped list
+at_place : {A B : Type 0} (f : A → B) (xs : List A) (i : ℕ) (d : A) (y : B) → i < length xs → y ≡ f (get_or xs i d) → At (map f xs) i y
+at_place f [] i d y lt e = absurd (omega arith)
+at_place f (x ∷ xs) zero d y lt e = e
+at_place f (x ∷ xs) (suc i) d y lt e = at_place f xs i d y (omega arith) e
+
+place_at : {A B : Type 0} (f : A → B) (xs : List A) (i : ℕ) (d : A) (y : B) → At (map f xs) i y → (i < length xs) × (y ≡ f (get_or xs i d))
+place_at f [] i d y h = absurd h
+place_at f (x ∷ xs) zero d y h = (omega arith, h)
+place_at f (x ∷ xs) (suc i) d y h = let r = place_at f xs i d y h in (omega (arith, r.0), r.1)
+
+module _ (found : Tokens) (n : List ℕ) (bound : List ℕ) where
+  -- the name of a bound token is this one, or it is not
+  abbrev Same : ℕ → Bool → Type 0
+  Same k b = bytes_eq n (name_at found (get_or bound k 0)) ≡ b
+
+  other : (k : ℕ) → (k < length bound → Same k false) → At (names_of found bound) k n → ⊥
+  other k h at = let p = place_at (name_at found) bound k 0 n at in clash (sym (h p.0) ∙ (bytes_eq-Decides n (name_at found (get_or bound k 0))).1 p.1)
+
+  -- the last place where it stands is that of the latest binding; where it stands nowhere, there is none
+  pub latest_at : (i : ℕ) → i < length bound → Same i true → ((k : ℕ) → i < k → k < length bound → Same k false) → latest n (names_of found bound) ≡ Some i
+  latest_at i lt here after =
+      refers_one n (names_of found bound) (latest n (names_of found bound)) (Some i) (latest_binding n (names_of found bound))
+      (at_place (name_at found) bound i 0 n lt ((bytes_eq-Decides n (name_at found (get_or bound i 0))).0 here), λ k further. other k (after k further))
+
+  pub latest_nowhere : ((k : ℕ) → k < length bound → Same k false) → latest n (names_of found bound) ≡ None
+  latest_nowhere none = refers_one n (names_of found bound) (latest n (names_of found bound)) None (latest_binding n (names_of found bound)) (λ k. other k (none k))
 
 -- what is found beside a name is listed so
 listed : (n : List ℕ) (g : Given) (list : List (List ℕ × Given)) → beside n list ≡ Some g → In (n, g) list

@@ -1,12 +1,10 @@
 -- What is seen at a token. Assumes nothing.
-use Rattle.std.proofs.Common.{◌≡◌, ℕ, ◌+◌, ◌<◌, ◌≤◌, List, [], ◌∷◌, ◌++◌, map, length, get_or, take, sym, refl, ap, ◌∙◌, Bor}
-use Rattle.std.proofs.lemmas.List.{drop_all, drop_more, drop-map, map_more, map-append}
+use Rattle.std.proofs.Common.{◌≡◌, ℕ, ◌<◌, ◌≤◌, List, [], map, length, get_or, sym, refl, ap, ◌∙◌, Bor}
+use Rattle.std.proofs.lemmas.List.{drop_all, drop_more, drop-map}
 use Rattle.token.specs.declared.token.Token.{Token}
 use Rattle.token.specs.declared.token.Token.TheVariants.{Name, Title, Let, Rec, And, Acyclic, Irreflexive, Empty, Flag, As, Universe, NoPairs, NoEvents, Inverse, Open, Close, OpenSquare, CloseSquare, Bar, Semicolon, Backslash, Ampersand, Star, Tilde, Plus, Question, Equals}
 use Rattle.token.specs.declared.token.Lexeme.{Lexeme}
-use Rattle.sentence.specs.declared.sort.Sort.{Sort}
 use Rattle.token.specs.Views.{view, lexeme_view}
-use Rattle.cat.specs.Sorts.{sort_of, sorts_of}
 use Rattle.cat.specs.Scopes.{name_of, first_name, name_at}
 use Rattle.cat.specs.Readings.{first_place, place_of}
 
@@ -17,12 +15,6 @@ name_past ls k h = sym (ap first_name (drop-map lexeme_view k ls ∙ ap (map lex
 -- at a token the name is its own
 pub name_here : (ls : List Lexeme) (k : ℕ) (d : Lexeme) → k < length ls → name_at (map lexeme_view ls) k ≡ name_of (view (get_or ls k d).token)
 name_here ls k d h = ap first_name (drop-map lexeme_view k ls ∙ ap (map lexeme_view) (drop_more ls k d h))
-
--- one more token, one more sort
-pub sorts_more : (ls : List Lexeme) (i : ℕ) (d : Lexeme) (old new : List Sort) (s : Sort) → i < length ls → old ≡ sorts_of (map lexeme_view (take i ls)) → s ≡ sort_of (view (get_or ls i d).token) → new ≡ old ++ (s ∷ []) → new ≡ sorts_of (map lexeme_view (take (i + 1) ls))
-sorts_more ls i d old new s h so is more =
-    let e : sorts_of (map lexeme_view (take (i + 1) ls)) ≡ sorts_of (map lexeme_view (take i ls)) ++ (sort_of (view (get_or ls i d).token) ∷ []) = ap sorts_of (map_more lexeme_view ls i d h) ∙ map-append (λ t. sort_of t.1) (map lexeme_view (take i ls)) (lexeme_view (get_or ls i d) ∷ []) in
-    cc
 
 -- a token that is no name has none
 pub name_none : (t : Token) → ((x : Bor (List ℕ)) → t ≡ Name x → ⊥) → [] ≡ name_of (view t)

@@ -1,11 +1,20 @@
 //! The limits of a text: how many names are bound, how many checks there are, how many brackets are open together.
 ghost use Rattle.std.specs.Prelude.{◌≡◌, ◌+◌, ◌^◌, ◌<◌, drop};
-ghost use Rattle.cat.specs.Limits.{class, first_class, counted, sum, is_equals, past, Limited};
+ghost use Rattle.cat.specs.Limits.{class, first_class, counted, sum, past, Limited};
 
 use sentence::Sort;
 
+/// How many names a text may bind.
+const MOST_NAMES: usize = 64;
+
+/// How many check words a text may have.
+const MOST_CHECKS: usize = 16;
+
+/// How many brackets may be open together.
+const MOST_OPEN: usize = 16;
+
 /// What a sort of token is to the limits: a name; the `=` behind a bound one; a check word; a bracket that opens or closes.
-#[derive(Clone, Copy)]
+#[derive(Clone, Copy, PartialEq, Eq, Debug)]
 pub enum Class {
     Name,
     Equals,
@@ -16,12 +25,52 @@ pub enum Class {
 }
 
 /// How many of each stand before a token.
-#[derive(Clone, Copy)]
+#[derive(Clone, Copy, PartialEq, Eq, Debug, Default)]
 pub struct Tally {
     pub equals: usize,
     pub words: usize,
     pub opened: usize,
     pub closed: usize,
+}
+
+impl Tally {
+    /// One more of a class.
+    fn with(self, class: Class) -> Tally
+        requires { sum self + 1 < 2 ^ 64 }
+        ensures { result ≡ counted self class }
+    {
+        match class {
+            Class::Equals => Tally {
+                equals: self.equals + 1,
+                ..self
+            },
+            Class::Word => Tally {
+                words: self.words + 1,
+                ..self
+            },
+            Class::Opens => Tally {
+                opened: self.opened + 1,
+                ..self
+            },
+            Class::Closes => Tally {
+                closed: self.closed + 1,
+                ..self
+            },
+            Class::Name | Class::Other => self,
+        }
+    }
+
+    /// Whether one of a class is past a limit, with what stands behind it and what is counted before it.
+    fn is_past(self, class: Class, next: Class) -> bool
+        ensures { result ≡ past class next self }
+    {
+        match class {
+            Class::Name => next == Class::Equals && self.equals >= MOST_NAMES,
+            Class::Word => self.words >= MOST_CHECKS,
+            Class::Opens => self.opened.saturating_sub(self.closed) >= MOST_OPEN,
+            Class::Equals | Class::Closes | Class::Other => false,
+        }
+    }
 }
 
 /// What a sort is to the limits.
@@ -30,32 +79,11 @@ fn class_of(sort: Sort) -> Class
 {
     match sort {
         Sort::Name => Class::Name,
-        Sort::Title => Class::Other,
-        Sort::Let => Class::Other,
-        Sort::Rec => Class::Other,
-        Sort::And => Class::Other,
-        Sort::Acyclic => Class::Word,
-        Sort::Irreflexive => Class::Word,
-        Sort::Empty => Class::Word,
-        Sort::Flag => Class::Other,
-        Sort::As => Class::Other,
-        Sort::Universe => Class::Other,
-        Sort::NoPairs => Class::Other,
-        Sort::NoEvents => Class::Other,
-        Sort::Inverse => Class::Other,
-        Sort::Open => Class::Opens,
-        Sort::Close => Class::Closes,
-        Sort::OpenSquare => Class::Opens,
-        Sort::CloseSquare => Class::Closes,
-        Sort::Bar => Class::Other,
-        Sort::Semicolon => Class::Other,
-        Sort::Backslash => Class::Other,
-        Sort::Ampersand => Class::Other,
-        Sort::Star => Class::Other,
-        Sort::Tilde => Class::Other,
-        Sort::Plus => Class::Other,
-        Sort::Question => Class::Other,
         Sort::Equals => Class::Equals,
+        Sort::Acyclic | Sort::Irreflexive | Sort::Empty => Class::Word,
+        Sort::Open | Sort::OpenSquare => Class::Opens,
+        Sort::Close | Sort::CloseSquare => Class::Closes,
+        _ => Class::Other,
     }
 }
 
@@ -63,98 +91,20 @@ fn class_of(sort: Sort) -> Class
 fn class_at(sorts: &[Sort], at: usize) -> Class
     ensures { result ≡ first_class (drop at sorts.now) }
 {
-    if at < sorts.len() {
-        class_of(sorts[at])
-    } else {
-        Class::Other
-    }
-}
-
-/// Whether it is the `=` of a bound name.
-fn is_equals(class: Class) -> bool
-    ensures { result ≡ is_equals class }
-{
-    match class {
-        Class::Equals => true,
-        Class::Name => false,
-        Class::Word => false,
-        Class::Opens => false,
-        Class::Closes => false,
-        Class::Other => false,
-    }
-}
-
-/// One more of a class.
-fn counted(tally: Tally, class: Class) -> Tally
-    requires { sum tally + 1 < 2 ^ 64 }
-    ensures { result ≡ counted tally class }
-{
-    let Tally {
-        equals,
-        words,
-        opened,
-        closed,
-    } = tally;
-    match class {
-        Class::Name => tally,
-        Class::Equals => Tally {
-            equals: equals + 1,
-            words,
-            opened,
-            closed,
-        },
-        Class::Word => Tally {
-            equals,
-            words: words + 1,
-            opened,
-            closed,
-        },
-        Class::Opens => Tally {
-            equals,
-            words,
-            opened: opened + 1,
-            closed,
-        },
-        Class::Closes => Tally {
-            equals,
-            words,
-            opened,
-            closed: closed + 1,
-        },
-        Class::Other => tally,
-    }
-}
-
-/// Whether one of a class is past a limit, with what stands behind it and what is counted before it.
-fn past(class: Class, next: Class, tally: Tally) -> bool
-    ensures { result ≡ past class next tally }
-{
-    match class {
-        Class::Name => is_equals(next) & (tally.equals >= 64),
-        Class::Equals => false,
-        Class::Word => tally.words >= 16,
-        Class::Opens => tally.opened.saturating_sub(tally.closed) >= 16,
-        Class::Closes => false,
-        Class::Other => false,
-    }
+    sorts.get(at).map_or(Class::Other, |sort| class_of(*sort))
 }
 
 /// The first token past a limit: the 65th bound name, the 17th check word, or a bracket that opens while 16 are open.
 pub(crate) fn over_limit(sorts: &[Sort]) -> Option<usize>
     ensures { Limited sorts.now result }
 {
-    let mut tally = Tally {
-        equals: 0,
-        words: 0,
-        opened: 0,
-        closed: 0,
-    };
-    for at in 0..sorts.len() {
-        let class = class_at(sorts, at);
-        if past(class, class_at(sorts, at + 1), tally) {
+    let mut tally = Tally::default();
+    for (at, sort) in sorts.iter().enumerate() {
+        let class = class_of(*sort);
+        if tally.is_past(class, class_at(sorts, at + 1)) {
             return Some(at);
         }
-        tally = counted(tally, class);
+        tally = tally.with(class);
     }
     None
 }

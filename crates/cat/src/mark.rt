@@ -16,12 +16,7 @@ use token::Lexeme;
 pub(crate) fn before_word(mark: Said, negated: bool) -> usize
     ensures { result ≡ before_word (said_mark mark) negated }
 {
-    let flag = match mark {
-        Said::Plain => 0,
-        Said::Labelled(_) => 0,
-        Said::Flagged(_) => 1,
-    };
-    if negated { flag + 1 } else { flag }
+    usize::from(matches!(mark, Said::Flagged(_))) + usize::from(negated)
 }
 
 /// How many tokens stand behind the expression of a check.
@@ -30,8 +25,7 @@ pub(crate) fn behind_term(mark: Said) -> usize
 {
     match mark {
         Said::Plain => 0,
-        Said::Labelled(_) => 2,
-        Said::Flagged(_) => 2,
+        Said::Labelled(_) | Said::Flagged(_) => 2,
     }
 }
 

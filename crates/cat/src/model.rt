@@ -1,5 +1,5 @@
 //! A model: the text last read into it, or unread. This file has its type.
-ghost use Rattle.std.specs.Prelude.{◌≡◌, true};
+ghost use Rattle.std.specs.Option.{ForSome};
 ghost use Rattle.term.specs.Statements.{statements_of};
 ghost use Rattle.cat.specs.Readings.{HasText};
 
@@ -10,7 +10,6 @@ pub mod calls;
 /// The statements of the text last read, if the model is read.
 #[derive(Drop)]
 pub struct Model {
-    known: bool,
-    statements: Vec<Statement>,
-    ghost text: { known ≡ true → ∥ HasText (statements_of statements.items) ∥₁ },
+    statements: Option<Vec<Statement>>,
+    ghost text: { ForSome statements (λ v. ∥ HasText (statements_of v.items) ∥₁) },
 }

@@ -20,11 +20,7 @@ use token::{Lexeme, lex};
 fn place_of<'a>(text: &[u8], lexemes: &[Lexeme<'a>], token: usize) -> usize
     ensures { result ≡ place_of text.now (map lexeme_view lexemes.now) token }
 {
-    if token < lexemes.len() {
-        lexemes[token].place
-    } else {
-        text.len()
-    }
+    lexemes.get(token).map_or(text.len(), |lexeme| lexeme.place)
 }
 
 /// The sentence that is written with these tokens; refused at the first that no text has there.

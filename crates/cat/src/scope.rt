@@ -1,89 +1,73 @@
 //! Names: which are given, and which binding one means.
 ghost use Rattle.std.specs.Prelude.{◌≡◌, map, is_some};
-ghost use Rattle.token.specs.Views.{lexeme_view};
+ghost use Rattle.token.specs.Views.{view, lexeme_view};
 ghost use Rattle.term.specs.Terms.{term_of};
-ghost use Rattle.cat.specs.Scopes.{name_at, given_as, latest, names_of, name_term, given_relations, beside, among};
-ghost use Rattle.std.specs.Str.{bytes_eq};
+ghost use Rattle.cat.specs.Scopes.{name_of, name_at, beside, given_as, latest, names_of, name_term, among};
 
 use term::{Given, Term};
 use token::{Lexeme, Token};
 
-/// Whether two stretches of bytes are the same.
-pub(crate) fn is(bytes: &[u8], word: &[u8]) -> bool
-    ensures { result ≡ bytes_eq bytes.now word.now }
-{
-    bytes == word
-}
+/// The given names with what they stand for: sets, then relations.
+const GIVEN: [(&[u8], Given); 13] = [
+    (b"R", Given::Reads),
+    (b"W", Given::Writes),
+    (b"F", Given::Fences),
+    (b"B", Given::Branches),
+    (b"M", Given::Memory),
+    (b"IW", Given::Initial),
+    (b"FW", Given::Settled),
+    (b"po", Given::ProgramOrder),
+    (b"rf", Given::ReadsFrom),
+    (b"loc", Given::SameLocation),
+    (b"ext", Given::OtherThread),
+    (b"id", Given::Identity),
+    (b"co", Given::Coherence),
+];
 
-/// The bytes of the name at a token; none where no name stands.
-pub(crate) fn name_at<'a>(lexemes: &[Lexeme<'a>], token: usize) -> &'a [u8]
-    ensures { result.now ≡ name_at (map lexeme_view lexemes.now) token }
+/// The bytes of a name; none of another token.
+fn name_of<'a>(token: Token<'a>) -> &'a [u8]
+    ensures { result.now ≡ name_of (view token.entry) }
 {
-    if token >= lexemes.len() {
-        return b"";
-    }
-    if let Token::Name(bytes) = lexemes[token].token {
+    if let Token::Name(bytes) = token {
         bytes
     } else {
         b""
     }
 }
 
+/// The bytes of the name at a token; none where no name stands.
+pub(crate) fn name_at<'a>(lexemes: &[Lexeme<'a>], token: usize) -> &'a [u8]
+    ensures { result.now ≡ name_at (map lexeme_view lexemes.now) token }
+{
+    lexemes
+        .get(token)
+        .map_or(b"", |lexeme| name_of(lexeme.token))
+}
+
+/// What stands beside a name in a table.
+fn beside(table: &[(&[u8], Given)], name: &[u8]) -> Option<Given>
+    ensures { result ≡ beside name.now (map (λ e. (e.0.now, e.1)) table.entry.now) }
+{
+    table
+        .iter()
+        .find(|entry| name == entry.0)
+        .map(|entry| entry.1)
+}
+
 /// What is given under a name.
 fn given_as(name: &[u8]) -> Option<Given>
     ensures { result ≡ given_as name.now }
 {
-    if is(name, b"R") {
-        Some(Given::Reads)
-    } else if is(name, b"W") {
-        Some(Given::Writes)
-    } else if is(name, b"F") {
-        Some(Given::Fences)
-    } else if is(name, b"B") {
-        Some(Given::Branches)
-    } else if is(name, b"M") {
-        Some(Given::Memory)
-    } else if is(name, b"IW") {
-        Some(Given::Initial)
-    } else if is(name, b"FW") {
-        Some(Given::Settled)
-    } else {
-        given_relation(name)
-    }
-}
-
-/// The relation that is given under a name.
-fn given_relation(name: &[u8]) -> Option<Given>
-    ensures { result ≡ beside name.now given_relations }
-{
-    if is(name, b"po") {
-        Some(Given::ProgramOrder)
-    } else if is(name, b"rf") {
-        Some(Given::ReadsFrom)
-    } else if is(name, b"loc") {
-        Some(Given::SameLocation)
-    } else if is(name, b"ext") {
-        Some(Given::OtherThread)
-    } else if is(name, b"id") {
-        Some(Given::Identity)
-    } else if is(name, b"co") {
-        Some(Given::Coherence)
-    } else {
-        None
-    }
+    beside(&GIVEN, name)
 }
 
 /// The number of the latest binding of a name; bound names are listed by their tokens.
 fn latest<'a>(lexemes: &[Lexeme<'a>], bound: &[usize], name: &[u8]) -> Option<usize>
     ensures { result ≡ latest name.now (names_of (map lexeme_view lexemes.now) bound.now) }
 {
-    let mut found = None;
-    for (number, token) in bound.iter().enumerate() {
-        if is(name, name_at(lexemes, *token)) {
-            found = Some(number);
-        }
-    }
-    found
+    bound
+        .iter()
+        .rposition(|token| name == name_at(lexemes, *token))
 }
 
 /// Whether a name is among those at some tokens.

@@ -46,9 +46,8 @@ fn sort_of<'a>(token: Token<'a>) -> Sort
 pub(crate) fn sorts<'a>(heap: Global, lexemes: &[Lexeme<'a>]) -> Result<Vec<Sort>, AllocError>
     ensures { IfOk result (λ v. v.items ≡ sorts_of (map lexeme_view lexemes.now)) }
 {
-    let mut found = Vec::new(heap);
-    for lexeme in lexemes {
-        found.push(sort_of(lexeme.token))?;
-    }
-    Ok(found)
+    lexemes
+        .iter()
+        .map(|lexeme| sort_of(lexeme.token))
+        .collect(heap)
 }

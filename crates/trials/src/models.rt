@@ -8,7 +8,7 @@ const SC: &[u8] = b"let fr = rf^-1;co acyclic po | rf | co | fr as sc";
 
 /// How many checks a text has that is read; else the number and place of its refusal, none for want of memory.
 fn told(heap: Global, text: &[u8]) -> Result<usize, Option<(u8, usize)>> {
-    let mut model = Model::new(heap);
+    let mut model = Model::new();
     model.read(heap, text).map_err(|fault| fault.refusal().map(|told| (told.number, told.place)))?;
     Ok(model.checks())
 }
@@ -280,7 +280,7 @@ fn models_are_read_with_their_checks(rt: HostRuntime) {
 #[test]
 fn a_text_is_read_in_place_of_the_last(rt: HostRuntime) {
     let heap = rt.alloc();
-    let mut model = Model::new(heap);
+    let mut model = Model::new();
     assert!(rt; !model.is_read());
     assert!(rt; model.read(heap, SC).is_ok());
     assert!(rt; model.is_read() && model.checks() == 1 && model.statements().len() == 2);

@@ -1,6 +1,6 @@
 //! What can be done with a model.
-ghost use Rattle.std.specs.Prelude.{◌≡◌, ◌≤◌, [], ◌∷◌, length, MatchResult};
-ghost use Rattle.term.specs.Statements.{statement_of, statements_of, claims};
+ghost use Rattle.std.specs.Prelude.{◌≡◌, length, MatchResult};
+ghost use Rattle.term.specs.Statements.{statements_of, claims};
 ghost use Rattle.cat.specs.Models.{Unread, HoldsText, model_statements, IsRead};
 ghost use Rattle.cat.specs.Readings.{Refused, OneReading};
 
@@ -10,38 +10,22 @@ use crate::read::parse;
 use std::alloc::Global;
 use term::Statement;
 
-/// How many checks a statement is: one or none.
-fn checks_of(statement: &Statement) -> usize
-    ensures count { result ≡ length (claims (statement_of statement.now ∷ [])) }
-    ensures few { result ≤ 1 }
-{
-    match statement {
-        Statement::Let(_) => 0,
-        Statement::Group(_) => 0,
-        Statement::Check(_) => 1,
-    }
-}
-
 /// How many checks there are among statements.
 fn count_checks(statements: &[Statement]) -> usize
     ensures { result ≡ length (claims (statements_of statements.now)) }
 {
-    let mut count = 0;
-    for statement in statements {
-        count += checks_of(statement);
-    }
-    count
+    statements
+        .iter()
+        .filter(|statement| matches!(statement, Statement::Check(_)))
+        .count()
 }
 
 impl Model {
     /// A model that is not read yet.
-    pub fn new(heap: Global) -> Model
+    pub fn new() -> Model
         ensures { Unread result }
     {
-        Model {
-            known: false,
-            statements: Vec::new(heap),
-        }
+        Model { statements: None }
     }
 
     /// Reads a text in place of what the model held. Refused, with the first listed fault at its lowest place, the model
@@ -50,10 +34,8 @@ impl Model {
         ensures told { MatchResult result (λ _. HoldsText self.new text.now) (λ f. Refused text.now f × Unread self.new) }
         ensures one { OneReading text.now }
     {
-        self.known = false;
-        let statements = parse(heap, text)?;
-        self.statements = statements;
-        self.known = true;
+        self.statements = None;
+        self.statements = Some(parse(heap, text)?);
         Ok(())
     }
 
@@ -61,20 +43,23 @@ impl Model {
     pub fn is_read(&self) -> bool
         ensures { IsRead self.now result }
     {
-        self.known
+        self.statements.is_some()
     }
 
-    /// The statements of the text, in text order.
+    /// The statements of the text, in text order; none of an unread model.
     pub fn statements(&self) -> &[Statement]
         ensures { statements_of result.now ≡ model_statements self.now }
     {
-        self.statements.as_slice()
+        match &self.statements {
+            Some(statements) => statements.as_slice(),
+            None => &[],
+        }
     }
 
     /// How many checks the model has, flags included.
     pub fn checks(&self) -> usize
         ensures { result ≡ length (claims (model_statements self.now)) }
     {
-        count_checks(self.statements.as_slice())
+        count_checks(self.statements())
     }
 }

@@ -1,12 +1,14 @@
-use Rattle.std.proofs.Common.{map, ap, ◌∙◌}
-use Rattle.std.proofs.lemmas.List.{take_all}
-use Rattle.token.specs.Views.{lexeme_view}
-use Rattle.cat.specs.Sorts.{sorts_of}
-use Rattle.cat.proofs.Seen.{sorts_more}
+use Rattle.std.proofs.Common.{◌≡◌, map, vec_items, sym, ◌∙◌, rules, tests}
+use Rattle.std.proofs.lemmas.Iterator.{items_from_collect, YieldsList-from_map, YieldsList-from_slice}
+use Rattle.std.proofs.lemmas.Result.{IfOk-weaker}
+use Rattle.std.proofs.lemmas.Simd.{map-map}
+use Rattle.token.specs.declared.token.Lexeme.{Lexeme}
+use Rattle.token.specs.Views.{view, lexeme_view}
+use Rattle.cat.specs.Sorts.{sort_of, sorts_of}
 use Rattle.cat.proofs.sort.sorts.Goals as goal
 
-pub loop-lexeme-preserved : goal.loop-lexeme-preserved
-loop-lexeme-preserved c = sorts_more c.args.lexemes.now c.loop-lexeme.lexeme-index _ _ _ _ c.loop-lexeme-test.true c.loop-lexeme.invariant c.sort_of.ensures c.in_ok-push.ensures.items
-
 pub returns : goal.returns
-returns c = c.loop-lexeme.invariant ∙ ap (λ x. sorts_of (map lexeme_view x)) (take_all c.loop-lexeme.lexeme-index c.args.lexemes.now c.loop-lexeme-test.false)
+returns c =
+    let ls = c.args.lexemes.now in
+    let found = items_from_collect c.collect.result c.collect.ensures.ran (YieldsList-from_map _ (λ (l : Lexeme). sort_of (view l.token)) (YieldsList-from_slice ls (cc)) c.map.ensures.closure (λ x r q k. search (rules, tests))) in
+    IfOk-weaker c.collect.result (λ v. vec_items v ≡ map (λ (l : Lexeme). sort_of (view l.token)) ls) (λ v. vec_items v ≡ sorts_of (map lexeme_view ls)) (λ v e. e ∙ sym (map-map (λ t. sort_of t.1) lexeme_view ls)) found

@@ -1,11 +1,6 @@
-use Rattle.cat.proofs.Tallying.{counts_first, counts_more, counts_done}
+use Rattle.std.proofs.Common.{◌≡◌, count_by, ◌∙◌, rules}
+use Rattle.cat.proofs.Tallying.{is_check, checks_counted}
 use Rattle.cat.proofs.model.calls.count_checks.Goals as goal
 
-pub loop-statement-init : goal.loop-statement-init
-loop-statement-init c = counts_first c.args.statements.now
-
-pub loop-statement-preserved : goal.loop-statement-preserved
-loop-statement-preserved c = counts_more c.args.statements.now c.loop-statement.statement-index c.loop-statement.count c.checks_of-count.result c.statement-item.result c.loop-statement.invariant c.loop-statement-test.true c.statement-item.is c.checks_of-count.ensures.count c.checks_of-count.ensures.few
-
 pub returns : goal.returns
-returns c = counts_done c.args.statements.now c.loop-statement.statement-index c.loop-statement.count c.loop-statement.invariant c.loop-statement-test.false
+returns c = let e : c.count.result ≡ count_by is_check c.args.statements.now = search rules in e ∙ checks_counted c.args.statements.now
