@@ -5,9 +5,9 @@ ghost use Rattle.coherence.specs.Digits.{ways, digits_of, excess};
 ghost use Rattle.coherence.specs.Laying.{capped};
 ghost use Rattle.coherence.specs.Answers.{Told, Gives};
 
-use super::order::Order;
 use super::role::Role;
-use super::{factorials, mask, order, role};
+use super::{factorials, line, mask, role};
+use relation::Relation;
 use run::Snapshot;
 
 /// The most orders that are counted.
@@ -61,14 +61,14 @@ fn split(events: &Snapshot, number: u16, digits: &mut [u32; 16]) -> u32
     rest
 }
 
-/// Writes the coherence order of a number into the place, and says whether the run has one; if not, nothing is changed.
-pub fn nth_order(events: &Snapshot, number: u16, place: &mut Order) -> bool
+/// Writes the coherence order of a number into the place, from a write to every later one of its location, and says whether the run has one; if not, nothing is changed.
+pub fn nth_order(events: &Snapshot, number: u16, place: &mut Relation) -> bool
     ensures { Gives (table_run events.now.events) number place.old.rows place.new.rows result }
 {
     let mut digits = [0; 16];
     if split(events, number, &mut digits) > 0 {
         return false;
     }
-    order::lay_lines(events, &digits, place);
+    line::lay_lines(events, &digits, place);
     true
 }

@@ -1,6 +1,6 @@
 use Rattle.std.proofs.Common.{◌≡◌, length, sym, refl, subst, arith, rules}
 use Rattle.coherence.proofs.Laying.{Underway, underway_start, underway_more, underway_done}
-use Rattle.coherence.proofs.order.lay.Goals as goal
+use Rattle.coherence.proofs.line.lay.Goals as goal
 
 pub nonzero_div-digit : goal.nonzero_div-digit
 nonzero_div-digit c = c.factorial-radix.ensures.positive
