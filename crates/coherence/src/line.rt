@@ -19,7 +19,7 @@ fn lay(order: &mut Relation, mut rest: u32, mut group: u32, mut digit: u32) -> u
     ensures rows { order.new.rows ≡ laid order.old.rows rest (mask_row group digit) }
     ensures rest { result ≡ left_of rest (mask_row group digit) }
 {
-    for others in (0..mask::size(group)).rev() {
+    for others in (0..group.count_ones()).rev() {
         let radix = factorials::factorial(others);
         let event = mask::select(group, digit / radix);
         digit %= radix;
