@@ -14,26 +14,31 @@ factorial_le m (suc n) le =
     ⊎_elim (λ e. subst (λ k. factorial m ≤ factorial k) e (omega arith)) (λ lt. let before = factorial_le m n (le_of_suc-le-suc lt) in omega (arith, factorial_next n)) (eq-or-lt_of_le le)
 
 -- the table
-pub table_right : (n : ℕ) → n < 9 → get_or (1 ∷ 1 ∷ 2 ∷ 6 ∷ 24 ∷ 120 ∷ 720 ∷ 5040 ∷ 40320 ∷ []) n 0 ≡ capped (factorial n)
+in_table : (n : ℕ) → n ≤ 9 → get_or (1 ∷ 1 ∷ 2 ∷ 6 ∷ 24 ∷ 120 ∷ 720 ∷ 5040 ∷ 40320 ∷ 362880 ∷ []) n 0 ≡ factorial n
 unfolding factorial
-table_right zero lt = refl
-table_right (suc zero) lt = refl
-table_right (suc (suc zero)) lt = refl
-table_right (suc (suc (suc zero))) lt = refl
-table_right (suc (suc (suc (suc zero)))) lt = refl
-table_right (suc (suc (suc (suc (suc zero))))) lt = refl
-table_right (suc (suc (suc (suc (suc (suc zero)))))) lt = refl
-table_right (suc (suc (suc (suc (suc (suc (suc zero))))))) lt = refl
-table_right (suc (suc (suc (suc (suc (suc (suc (suc zero)))))))) lt = refl
-table_right (suc (suc (suc (suc (suc (suc (suc (suc (suc n))))))))) lt = absurd (omega arith)
+in_table zero le = refl
+in_table (suc zero) le = refl
+in_table (suc (suc zero)) le = refl
+in_table (suc (suc (suc zero))) le = refl
+in_table (suc (suc (suc (suc zero)))) le = refl
+in_table (suc (suc (suc (suc (suc zero))))) le = refl
+in_table (suc (suc (suc (suc (suc (suc zero)))))) le = refl
+in_table (suc (suc (suc (suc (suc (suc (suc zero))))))) le = refl
+in_table (suc (suc (suc (suc (suc (suc (suc (suc zero)))))))) le = refl
+in_table (suc (suc (suc (suc (suc (suc (suc (suc (suc zero))))))))) le = refl
+in_table (suc (suc (suc (suc (suc (suc (suc (suc (suc (suc n)))))))))) le = absurd (omega arith)
 
--- past the table
 nine : factorial 9 ≡ 362880
 unfolding factorial
 nine = refl
 
-pub past_table : (n : ℕ) → 9 ≤ n → 362880 ≡ capped (factorial n)
-past_table n le = let most = factorial_le 9 n le in omega (arith, nine)
+pub table_right : (n k : ℕ) → k ≡ min n 9 → get_or (1 ∷ 1 ∷ 2 ∷ 6 ∷ 24 ∷ 120 ∷ 720 ∷ 5040 ∷ 40320 ∷ 362880 ∷ []) k 0 ≡ capped (factorial n)
+table_right n k e =
+    in_table k (omega arith)
+    ∙ ⊎_elim
+    (λ over. let here : k ≡ 9 = omega arith in let most = factorial_le 9 n (omega arith) in ap factorial here ∙ omega (arith, nine))
+    (λ within. let here : k ≡ n = omega arith in let most = factorial_le n 9 (omega arith) in ap factorial here ∙ omega (arith, nine))
+    (cases_lt 9 n)
 
 -- division by a factorial is division by what the code has, below the cap
 pub capped_div : (k f : ℕ) → k < 362880 → k / capped f ≡ k / f

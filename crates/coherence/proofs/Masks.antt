@@ -1,11 +1,14 @@
 -- Masks: their bits, and rows with lines laid into them. Assumes nothing.
-use Rattle.std.proofs.Common.{◌≡◌, ℕ, zero, suc, ◌+◌, ◌-◌, ◌*◌, ◌/◌, ◌%◌, ◌^◌, ◌<◌, ◌≤◌, Bool, true, false, cond, not, ◌||◌, eqb, ltb, List, [], ◌∷◌, ◌++◌, length, get_or, set, Decides, sym, refl, ap, ◌∙◌, subst, inl, inr, ⊎_elim, not-suc-le-zero, one-mul, add-one, arith, length-set, get_or-set_other, get_or-set_same}
+use Rattle.std.proofs.Common.{◌≡◌, ℕ, zero, suc, ◌+◌, ◌-◌, ◌*◌, ◌/◌, ◌%◌, ◌^◌, ◌<◌, ◌≤◌, Bool, true, false, cond, not, ◌||◌, eqb, ltb, List, [], ◌∷◌, ◌++◌, length, get_or, set, Decides, sym, refl, ap, ◌∙◌, subst, inl, inr, ⊎_elim, not-suc-le-zero, one-mul, add-one, arith, length-set, get_or-set_other, get_or-set_same, mod-lt, mod-eq_of_lt, length-append}
 use mathlib.Core.Path.{fun_ext}
 use native.Mathlib.Nat.{div-eq_of_lt, zero-div}
 use lib.Bits.{bit_or, bit_xor}
 use Rattle.std.proofs.lemmas.Bool.{both_ways, cases_Bool, cases_eq, cases_lt, eq-eqb, ne_eqb, or_left}
 use Rattle.std.proofs.lemmas.Bool.Decides.{nat_tests}
 use Rattle.std.proofs.lemmas.Nat.{pow-add, pow_below, shl-shr, or_shr, or_mod, xor_shr, xor_mod}
+use Rattle.std.specs.Int.Count.{ones, ones_in}
+use Rattle.std.specs.Int.RustNames.{count_ones}
+use Rattle.std.proofs.lemmas.Nat.{mod-pow-add, ones_cat, pow_pos}
 use Rattle.finite.specs.Lists.{In, Apart}
 use Rattle.coherence.specs.Perms.{removed}
 use Rattle.coherence.specs.Lines.{those, member, precedes}
@@ -92,6 +95,28 @@ unfolding has
 has_less_other mask x k ne =
     let bit : bit_xor mask (2 ^ x) / 2 ^ k % 2 ≡ bit_xor (mask / 2 ^ k % 2) (2 ^ x / 2 ^ k % 2) = ap (λ n. n % 2) (xor_shr mask (2 ^ x) k) ∙ xor_mod (mask / 2 ^ k) (2 ^ x / 2 ^ k) 1 in
     ap (λ n. eqb n 1) (bit ∙ ap (λ n. bit_xor (mask / 2 ^ k % 2) n) (power_other x k ne)) ∙ xor_off (mask / 2 ^ k % 2) (omega arith)
+
+-- it has as many numbers as bits
+bit_size : (u : ℕ) (x : ℕ) → u < 2 → length (cond (eqb u 1) (x ∷ []) []) ≡ count_ones u
+unfolding ones ones_in
+bit_size zero x lt = refl
+bit_size (suc zero) x lt = refl
+bit_size (suc (suc u)) x lt = absurd (omega arith)
+
+size_below : (mask n : ℕ) → length (those (has mask) n) ≡ count_ones (mask % 2 ^ n)
+unfolding those has ones ones_in
+size_below mask zero = let none : mask % 2 ^ 0 ≡ 0 = omega arith in sym (ap count_ones none)
+size_below mask (suc n) =
+    let bit : mask / 2 ^ n % 2 < 2 = omega arith in
+    let split : mask % 2 ^ suc n ≡ mask / 2 ^ n % 2 * 2 ^ n + mask % 2 ^ n = ap (λ k. mask % 2 ^ k) (omega arith) ∙ mod-pow-add mask 1 n in
+    let parts = ap count_ones split ∙ ones_cat n (mask / 2 ^ n % 2) (mask % 2 ^ n) (mod-lt mask (pow_pos n)) in
+    let one = bit_size (mask / 2 ^ n % 2) n bit in
+    let long = length-append (those (has mask) n) (cond (eqb (mask / 2 ^ n % 2) 1) (n ∷ []) []) in
+    let before = size_below mask n in
+    omega (arith, parts, one, long, before)
+
+pub mask_size : (mask : ℕ) → mask < 2 ^ 32 → count_ones mask ≡ length (those (has mask) 32)
+mask_size mask fits = sym (size_below mask 32 ∙ ap count_ones (mod-eq_of_lt fits))
 
 -- a mask of a test as a loop makes it
 pub mask_none : (p : ℕ → Bool) → 0 ≡ mask_of p 0

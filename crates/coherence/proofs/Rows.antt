@@ -1,11 +1,13 @@
 -- Rows: joining lists, what stands before what, and sorting. Assumes nothing.
-use Rattle.std.proofs.Common.{◌≡◌, ℕ, zero, suc, ◌+◌, ◌<◌, ◌≤◌, Bool, true, false, cond, ◌&&◌, eqb, ltb, ◌⊎◌, List, [], ◌∷◌, ◌++◌, length, get_or, Decides, sym, refl, ap, ◌∙◌, subst, ap₂, inl, inr, ⊎_elim, le_of_suc-le-suc, not-suc-le-zero, add-zero, eq-or-lt_of_le, add-one, arith, length-append}
+use Rattle.std.proofs.Common.{◌≡◌, ℕ, zero, suc, ◌+◌, ◌<◌, Bool, true, false, cond, ◌&&◌, eqb, ltb, ◌⊎◌, List, [], ◌∷◌, ◌++◌, length, get_or, Decides, sym, refl, ap, ◌∙◌, subst, ap₂, inl, inr, ⊎_elim, le_of_suc-le-suc, not-suc-le-zero, eq-or-lt_of_le, add-one, arith, length-append}
 use Rattle.std.proofs.lemmas.Bool.{lt-ltb, both_ways, false≢true, cases_eq}
-use Rattle.std.proofs.lemmas.List.{length_push, get_or_push, get_or_append_left, get_or_past}
+use Rattle.std.proofs.lemmas.List.{length_push, get_or_push, get_or_append_left}
 use Rattle.std.proofs.lemmas.Bool.Decides.{Decides-eqb, Decides-and, Decides-or}
+use mathlib.Core.List.{map-id}
+use Rattle.std.specs.List.{filter, range_with_len}
+use Rattle.std.proofs.lemmas.List.FromFn.{filter_of_map_range_with_len_more}
 use Rattle.finite.specs.Lists.{In, Apart}
 use Rattle.finite.specs.Counts.{count_below}
-use Rattle.finite.proofs.Counts.{count_below_le}
 use Rattle.coherence.specs.Perms.{Sorted, Rising}
 use Rattle.coherence.specs.Coherence.{Order}
 use Rattle.coherence.specs.Lines.{those, member, Precedes, precedes}
@@ -232,21 +234,13 @@ unfolding those count_below
 those_length p zero = refl
 those_length p (suc n) = those_step n (count_below p n) (those p n) (p n) (those_length p n)
 
--- counting them as a loop goes through the numbers
-pub size_none : (p : ℕ → Bool) → 0 ≡ length (those p 0)
+-- they are the library's numbers of a range that pass
+pub those_filter : (p : ℕ → Bool) (n : ℕ) → those p n ≡ filter p (range_with_len 0 n)
 unfolding those
-size_none p = refl
-
-pub size_found : (p : ℕ → Bool) (n : ℕ) → p n ≡ true → length (those p (n + 1)) ≡ length (those p n) + 1
-unfolding those
-size_found p n h = rw (add-one n, h) (length-append (those p n) (n ∷ []))
-
-pub size_passed : (p : ℕ → Bool) (n : ℕ) → p n ≡ false → length (those p (n + 1)) ≡ length (those p n)
-unfolding those
-size_passed p n h = rw (add-one n, h) (length-append (those p n) [] ∙ add-zero (length (those p n)))
-
-pub size_le : (p : ℕ → Bool) (n : ℕ) → length (those p n) ≤ n
-size_le p n = rw (those_length p n) (count_below_le p n)
+those_filter p zero = refl
+those_filter p (suc n) =
+    ap (λ xs. xs ++ cond (p n) (n ∷ []) []) (those_filter p n ∙ ap (filter p) (sym (map-id (range_with_len 0 n))))
+    ∙ sym (filter_of_map_range_with_len_more p (λ k. k) 0 n n (omega arith)) ∙ ap (filter p) (map-id (range_with_len 0 (n + 1)) ∙ ap (range_with_len 0) (add-one n))
 
 -- a number that passes stands at the place that the lower ones leave
 those_place : (p : ℕ → Bool) (n m : ℕ) → n < m → p n ≡ true → (length (those p n) < length (those p m)) × (get_or (those p m) (length (those p n)) 0 ≡ n)
@@ -263,12 +257,6 @@ those_place p n (suc m) lt h =
       get_or_append_left (those p m) (cond (p m) (m ∷ []) []) 0 (length (those p n)) t.0 ∙ t.1,
     ))
     (eq-or-lt_of_le (le_of_suc-le-suc lt))
-
-pub select_found : (p : ℕ → Bool) (n place : ℕ) → n < 32 → p n ≡ true → place ≡ length (those p n) → n ≡ get_or (those p 32) place 0
-select_found p n place lt h e = sym (ap (λ k. get_or (those p 32) k 0) e ∙ (those_place p n 32 lt h).1)
-
-pub select_none : (p : ℕ → Bool) (place : ℕ) → length (those p 32) ≤ place → 0 ≡ get_or (those p 32) place 0
-select_none p place le = sym (get_or_past (those p 32) place 0 le)
 
 -- tests that agree below the bound choose the same numbers
 pub those_same : (p q : ℕ → Bool) (n : ℕ) → ((k : ℕ) → k < n → p k ≡ q k) → those p n ≡ those q n

@@ -2,16 +2,15 @@
 #![tactic(auto)]
 
 mod factorials;
+mod line;
 mod mask;
 pub mod numbers;
-pub mod order;
 pub mod role;
 
 ghost use Rattle.coherence.specs.Laws.{OneProduct, Pairing, Counted, OnlyBelow32};
 ghost use Rattle.coherence.specs.Renumbered.{Carrying};
 
 pub use numbers::{count_orders, nth_order};
-pub use order::Order;
 
 /// The numbers below the product of the factorials and the coherence orders of a sound run pair off one to one.
 pub fn laws_of_orders()

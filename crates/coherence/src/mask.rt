@@ -1,5 +1,5 @@
 //! Masks: sets of event numbers as 32 bits.
-ghost use Rattle.std.specs.Prelude.{◌≡◌, ◌<◌, length, slice_index};
+ghost use Rattle.std.specs.Prelude.{◌≡◌, ◌<◌, slice_index};
 ghost use Rattle.coherence.specs.Masks.{has, more, less};
 ghost use Rattle.coherence.specs.Lines.{those};
 
@@ -27,32 +27,13 @@ pub(crate) fn without(mask: u32, number: u8) -> u32
     mask ^ (1 << number)
 }
 
-/// How many numbers are in the set.
-pub(crate) fn size(mask: u32) -> u8
-    ensures { result ≡ length (those (has mask) 32) }
-{
-    let mut found = 0;
-    for n in 0..32u8 {
-        if contains(mask, n) {
-            found += 1;
-        }
-    }
-    found
-}
-
 /// The number at a place among those in the set, from the lowest up; 0 past the last.
 pub(crate) fn select(mask: u32, place: u32) -> u8
     ensures found { result ≡ slice_index (those (has mask) 32) place }
     ensures within { result < 32 }
 {
-    let mut left = place;
-    for n in 0..32u8 {
-        if contains(mask, n) {
-            if left == 0 {
-                return n;
-            }
-            left -= 1;
-        }
-    }
-    0
+    (0..32u8)
+        .filter(|number| contains(mask, *number))
+        .nth(place as usize)
+        .unwrap_or(0)
 }

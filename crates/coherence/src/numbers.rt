@@ -1,13 +1,13 @@
 //! The number of coherence orders, and the order of a number.
-ghost use Rattle.std.specs.Prelude.{◌≡◌, ◌<◌, min};
+ghost use Rattle.std.specs.Prelude.{◌≡◌, ◌<◌};
 ghost use Rattle.run.specs.Tests.{table_run};
 ghost use Rattle.coherence.specs.Digits.{ways, digits_of, excess};
 ghost use Rattle.coherence.specs.Laying.{capped};
 ghost use Rattle.coherence.specs.Answers.{Told, Gives};
 
-use super::order::Order;
 use super::role::Role;
-use super::{factorials, mask, order, role};
+use super::{factorials, line, role};
+use relation::Relation;
 use run::Snapshot;
 
 /// The most orders that are counted.
@@ -21,14 +21,7 @@ fn ways(events: &Snapshot, location: u8) -> u32
     ensures positive { 0 < result }
 {
     let free = role::gather(events, Role::Free, location);
-    factorials::factorial(mask::size(free))
-}
-
-/// The lower of two numbers.
-fn lower(a: u32, b: u32) -> u32
-    ensures { result ≡ min a b }
-{
-    if a < b { a } else { b }
+    factorials::factorial(free.count_ones())
 }
 
 /// How many coherence orders a run has, or nothing if they are more than 5,040.
@@ -37,7 +30,7 @@ pub fn count_orders(events: &Snapshot) -> Option<u16>
 {
     let mut total = 1;
     for location in 0..16u8 {
-        total = lower(total * ways(events, location), OVER);
+        total = (total * ways(events, location)).min(OVER);
     }
     if total > LIMIT {
         None
@@ -52,8 +45,7 @@ fn split(events: &Snapshot, number: u16, digits: &mut [u32; 16]) -> u32
     ensures rest { result ≡ excess (ways (table_run events.now.events)) number 16 }
 {
     let mut rest = u32::from(number);
-    for step in 0..16u8 {
-        let location = 15 - step;
+    for location in (0..16u8).rev() {
         let radix = ways(events, location);
         digits[location as usize] = rest % radix;
         rest /= radix;
@@ -61,14 +53,14 @@ fn split(events: &Snapshot, number: u16, digits: &mut [u32; 16]) -> u32
     rest
 }
 
-/// Writes the coherence order of a number into the place, and says whether the run has one; if not, nothing is changed.
-pub fn nth_order(events: &Snapshot, number: u16, place: &mut Order) -> bool
+/// Writes the coherence order of a number into the place, from a write to every later one of its location, and says whether the run has one; if not, nothing is changed.
+pub fn nth_order(events: &Snapshot, number: u16, place: &mut Relation) -> bool
     ensures { Gives (table_run events.now.events) number place.old.rows place.new.rows result }
 {
     let mut digits = [0; 16];
     if split(events, number, &mut digits) > 0 {
         return false;
     }
-    order::lay_lines(events, &digits, place);
+    line::lay_lines(events, &digits, place);
     true
 }

@@ -6,7 +6,6 @@ ghost use Rattle.given.specs.Orders.{no_order, Reordered};
 
 use super::bond::{Bond, pairs_of};
 use super::class::{Class, events_of};
-use coherence::Order;
 use relation::{Relation, Value};
 use run::Snapshot;
 use term::Given;
@@ -52,12 +51,11 @@ impl Base {
     }
 
     /// The same under another order.
-    pub fn with_order(self, order: Order) -> Base
+    pub fn with_order(self, order: Relation) -> Base
         ensures { Reordered self order.rows result }
     {
-        let rows = order.rows;
         Base {
-            coherence: Relation { rows },
+            coherence: order,
             ..self
         }
     }

@@ -1,5 +1,6 @@
 //! Coherence orders of small runs, each listed; and the most free writes that are counted.
-use coherence::{Order, count_orders, nth_order};
+use coherence::{count_orders, nth_order};
+use relation::Relation;
 use run::{Event, Snapshot};
 
 /// A write: its kind (4 is an initial one), its location, and whether it is settled.
@@ -43,7 +44,7 @@ fn two_plus_two(settled: bool) -> Snapshot {
 
 /// Whether the order of a number has these events, and only these, one after the other.
 fn lines_up(events: &Snapshot, number: u16, line: &[u8]) -> bool {
-    let mut order = Order { rows: [0; 32] };
+    let mut order = Relation { rows: [0; 32] };
     let mut same = nth_order(events, number, &mut order);
     let mut later = 0;
     for event in line.iter().rev() {
@@ -72,7 +73,7 @@ fn two_plus_two_settled_has_one_order(rt: HostRuntime) {
 
 #[test]
 fn a_number_past_the_orders_changes_nothing(rt: HostRuntime) {
-    let mut order = Order { rows: [7; 32] };
+    let mut order = Relation { rows: [7; 32] };
     assert_eq!(rt; nth_order(&two_plus_two(false), 4, &mut order), false);
     assert!(rt; order.rows == [7; 32]);
 }

@@ -16,7 +16,7 @@ overflow_mul-total c =
 
 pub loop-location-preserved : goal.loop-location-preserved
 loop-location-preserved c =
-    c.lower-total.ensures ∙ product_more (table_run c.args.events.now.events) c.loop-location.location c.loop-location.total c.ways.result c.loop-location.invariant c.ways.ensures.value
+    c.min-total.ensures ∙ product_more (table_run c.args.events.now.events) c.loop-location.location c.loop-location.total c.ways.result c.loop-location.invariant c.ways.ensures.value
 
 pub returns-then-total-gt-LIMIT : goal.returns-then-total-gt-LIMIT
 returns-then-total-gt-LIMIT c =

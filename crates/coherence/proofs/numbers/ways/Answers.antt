@@ -1,11 +1,9 @@
-use Rattle.std.proofs.Common.{length, ap, ◌∙◌}
+use Rattle.std.proofs.Common.{length, ap, ◌∙◌, rules}
 use Rattle.coherence.specs.Perms.{factorial}
 use Rattle.coherence.specs.Laying.{capped}
+use Rattle.coherence.proofs.Masks.{mask_size}
 use Rattle.coherence.proofs.Laying.{gathered}
 use Rattle.coherence.proofs.numbers.ways.Goals as goal
 
-pub returns : goal.returns
-returns c = record {
-  value = c.factorial.ensures.value ∙ ap (λ n. capped (factorial n)) (c.size.ensures ∙ ap length (gathered c.gather-free.result _ c.gather-free.ensures));
-  positive = c.factorial.ensures.positive;
-}
+pub returns-clause-value : goal.returns-clause-value
+returns-clause-value c = c.factorial.ensures.value ∙ ap (λ n. capped (factorial n)) (mask_size c.gather-free.result (search rules) ∙ ap length (gathered c.gather-free.result _ c.gather-free.ensures))

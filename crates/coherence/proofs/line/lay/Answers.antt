@@ -1,6 +1,7 @@
 use Rattle.std.proofs.Common.{◌≡◌, length, sym, refl, subst, arith, rules}
+use Rattle.coherence.proofs.Masks.{mask_size}
 use Rattle.coherence.proofs.Laying.{Underway, underway_start, underway_more, underway_done}
-use Rattle.coherence.proofs.order.lay.Goals as goal
+use Rattle.coherence.proofs.line.lay.Goals as goal
 
 pub nonzero_div-digit : goal.nonzero_div-digit
 nonzero_div-digit c = c.factorial-radix.ensures.positive
@@ -11,7 +12,7 @@ nonzero_rem-digit c = c.factorial-radix.ensures.positive
 pub loop-others-init : goal.loop-others-init
 loop-others-init c =
     let long : length c.args.order.now.rows ≡ 32 = search rules in
-    subst (Underway _ _ _ _ _ _) (sym c.size-others.ensures) (underway_start c.args.order.now.rows c.args.rest c.args.group c.args.digit long c.requires.below c.requires.small)
+    subst (Underway _ _ _ _ _ _) (sym (mask_size c.args.group (search rules))) (underway_start c.args.order.now.rows c.args.rest c.args.group c.args.digit long c.requires.below c.requires.small)
 
 pub loop-others-preserved : goal.loop-others-preserved
 loop-others-preserved c =

@@ -1,7 +1,7 @@
 use Rattle.coherence.specs.Masks.{laid, left_of}
 use Rattle.coherence.specs.Laying.{mask_row}
 use Rattle.coherence.proofs.Laying.{Underway}
-use Rattle.coherence.proofs.order.lay.Given as goal
+use Rattle.coherence.proofs.line.lay.Given as goal
 
 abbrev pub invariant-loop-others : goal.invariant-loop-others
 invariant-loop-others l =

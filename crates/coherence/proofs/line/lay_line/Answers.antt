@@ -3,7 +3,7 @@ use Rattle.run.specs.Tests.{table_run}
 use Rattle.coherence.specs.Perms.{factorial}
 use Rattle.coherence.proofs.Perms.{factorial_pos}
 use Rattle.coherence.proofs.Laying.{gathered, line_laid}
-use Rattle.coherence.proofs.order.lay_line.Goals as goal
+use Rattle.coherence.proofs.line.lay_line.Goals as goal
 
 pub lay-after_first-requires : goal.lay-after_first-requires
 lay-after_first-requires c = record { below = factorial_pos _; small = omega arith }

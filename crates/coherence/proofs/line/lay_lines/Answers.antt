@@ -2,7 +2,7 @@ use Rattle.std.proofs.Common.{ap, ◌∙◌, arith}
 use Rattle.run.specs.Tests.{table_run}
 use Rattle.coherence.specs.Laying.{rows_at}
 use Rattle.coherence.proofs.Laying.{rows_none, rows_more}
-use Rattle.coherence.proofs.order.lay_lines.Goals as goal
+use Rattle.coherence.proofs.line.lay_lines.Goals as goal
 
 pub loop-location-init : goal.loop-location-init
 loop-location-init c = rows_none (table_run c.args.events.now.events) c.args.digits.now

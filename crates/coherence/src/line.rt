@@ -1,4 +1,4 @@
-//! An order as rows of masks, laid line by line.
+//! Laying an order into the rows of a relation, line by line.
 ghost use Rattle.std.specs.Prelude.{◌≡◌, ℕ, ◌<◌, length, slice_index};
 ghost use Rattle.run.specs.Tests.{table_run};
 ghost use Rattle.coherence.specs.Perms.{factorial};
@@ -9,22 +9,17 @@ ghost use Rattle.coherence.specs.Laying.{mask_row, writes_mask, rows_at};
 
 use super::role::Role;
 use super::{factorials, mask, role};
+use relation::Relation;
 use run::Snapshot;
 
-/// An order of events: row a has bit b exactly when a is before b.
-#[derive(Clone, Copy)]
-pub struct Order {
-    pub rows: [u32; 32],
-}
-
 /// Lays the numbers of a group, lined up by a digit, before what else is left; gives what is left after them.
-fn lay(order: &mut Order, mut rest: u32, mut group: u32, mut digit: u32) -> u32
+fn lay(order: &mut Relation, mut rest: u32, mut group: u32, mut digit: u32) -> u32
     requires below { digit < factorial (length (those (has group) 32)) }
     requires small { digit < 362880 }
     ensures rows { order.new.rows ≡ laid order.old.rows rest (mask_row group digit) }
     ensures rest { result ≡ left_of rest (mask_row group digit) }
 {
-    for others in (0..mask::size(group)).rev() {
+    for others in (0..group.count_ones()).rev() {
         let radix = factorials::factorial(others);
         let event = mask::select(group, digit / radix);
         digit %= radix;
@@ -36,7 +31,7 @@ fn lay(order: &mut Order, mut rest: u32, mut group: u32, mut digit: u32) -> u32
 }
 
 /// Lays the line of a location: the initial write, the free writes by their digit, the settled write.
-fn lay_line(events: &Snapshot, location: u8, digit: u32, order: &mut Order)
+fn lay_line(events: &Snapshot, location: u8, digit: u32, order: &mut Relation)
     requires below { digit < ways (table_run events.now.events) location }
     requires small { digit < 362880 }
     ensures { order.new.rows ≡ laid order.old.rows (writes_mask (table_run events.now.events) location) (line (table_run events.now.events) location (row_by (table_run events.now.events) location digit)) }
@@ -50,12 +45,12 @@ fn lay_line(events: &Snapshot, location: u8, digit: u32, order: &mut Order)
 }
 
 /// Lays the lines of all locations by their digits.
-pub(crate) fn lay_lines(events: &Snapshot, digits: &[u32; 16], order: &mut Order)
+pub(crate) fn lay_lines(events: &Snapshot, digits: &[u32; 16], order: &mut Relation)
     requires below { (l : ℕ) → l < 16 → slice_index digits.now l < ways (table_run events.now.events) l }
     requires small { (l : ℕ) → l < 16 → slice_index digits.now l < 362880 }
     ensures { order.new.rows ≡ rows_at (table_run events.now.events) digits.now 16 }
 {
-    *order = Order { rows: [0; 32] };
+    *order = Relation { rows: [0; 32] };
     for location in 0..16u8 {
         lay_line(events, location, digits[location as usize], order);
     }
