@@ -1,7 +1,7 @@
 -- What a record holds, in numbers and as text. Assumes nothing.
 use Rattle.std.specs.Prelude.{◌≡◌, ℕ, Bool, true, ◌⊎◌, List, ◌++◌, is_some, Some, None, codes, decimal, Option}
 use Rattle.finite.specs.Counts.{Counts}
-use Rattle.refusal.specs.declared.Refusal.{Refusal}
+use Rattle.refusal.specs.Lines.{refusal_text}
 use Rattle.run.specs.declared.event.Event.{Event}
 use Rattle.run.specs.declared.rule.Breach.{Breach}
 use Rattle.run.specs.Numbers.{rule_number}
@@ -10,26 +10,28 @@ use Rattle.run.specs.Runs.{Run, Stands}
 use Rattle.record.specs.declared.fault.RecordFault.{RecordFault}
 use Rattle.record.specs.Reading.{record_refusal}
 use Rattle.record.specs.Readings.{Holds, Faulty}
-use Rattle.summary.specs.declared.Mark.{Mark}
-use Rattle.summary.specs.declared.Mark.TheVariants.{Standing, Tied, Settled}
 use Rattle.summary.specs.declared.Summary.{Summary}
 
--- the event has the mark: every event stands, a tied one has a source, a settled one is settled
-abbrev pub marked : Mark → Event → Bool
-marked Standing e = true
-marked Tied e = is_some e.source
-marked Settled e = e.settled
+-- the marks of an event: every event stands, a tied one has a source, a settled one is settled
+abbrev pub any_mark : Event → Bool
+any_mark e = true
+
+abbrev pub tie_mark : Event → Bool
+tie_mark e = is_some e.source
+
+abbrev pub settled_mark : Event → Bool
+settled_mark e = e.settled
 
 -- the numbers at which an event with the mark stands
-abbrev pub AtMark : Mark → Run → ℕ → Type 0
-AtMark mark run n = (e : Event) × Stands run n e × (marked mark e ≡ true)
+abbrev pub AtMark : (Event → Bool) → Run → ℕ → Type 0
+AtMark mark run n = (e : Event) × Stands run n e × (mark e ≡ true)
 
 -- the numbers of a summary are those of the run
 pub record Sums (run : Run) (s : Summary) : Type 0 where
   -- how many events, ties and settlings the run has
-  pub events : Counts (AtMark Standing run) s.events
-  pub ties : Counts (AtMark Tied run) s.ties
-  pub settled : Counts (AtMark Settled run) s.settled
+  pub events : Counts (AtMark any_mark run) s.events
+  pub ties : Counts (AtMark tie_mark run) s.ties
+  pub settled : Counts (AtMark settled_mark run) s.settled
   -- whether it is sound, or the first rule broken with the lowest event at fault
   pub sound : Examined run s.breach
 
@@ -50,10 +52,6 @@ verdict_text (Some b) = breach_text (rule_number b.rule) b.event
 abbrev pub summary_text : Summary → List ℕ
 summary_text s =
     codes "EVENTS " ++ (decimal s.events ++ (codes " TIES " ++ (decimal s.ties ++ (codes " SETTLED " ++ (decimal s.settled ++ (codes "\n" ++ verdict_text s.breach))))))
-
--- the line of a refusal
-abbrev pub refusal_text : Refusal → List ℕ
-refusal_text r = codes "REFUSED " ++ (decimal r.number ++ (codes " " ++ decimal r.place))
 
 -- what the program says of a record's bytes: the summary, or the refusal
 abbrev pub Told : List ℕ → List ℕ → Type 0

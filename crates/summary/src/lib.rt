@@ -1,30 +1,21 @@
 //! Summaries: what a record holds, in numbers and as text.
 #![tactic(auto)]
 
-ghost use Rattle.std.specs.Prelude.{◌≡◌, ℕ, ◌+◌, ◌<◌, ◌≤◌, IfOk, string_bytes, MatchResult};
+ghost use Rattle.std.specs.Prelude.{◌≡◌, ◌+◌, Bool, Some, IfOk, string_bytes, MatchResult};
+ghost use Rattle.std.specs.Fn.{FnReturnsAt};
 ghost use Rattle.finite.specs.Counts.{Counts};
 ghost use Rattle.record.specs.Readings.{Faulty};
-ghost use Rattle.run.specs.Tests.{holds, table_run};
-ghost use Rattle.summary.specs.Sums.{marked, AtMark, Summed, breach_text, verdict_text, summary_text, refusal_text, Told};
+ghost use Rattle.run.specs.declared.event.Event.{Event};
+ghost use Rattle.run.specs.Tests.{table_run};
+ghost use Rattle.summary.specs.Sums.{AtMark, Summed, verdict_text, summary_text, Told};
 
 use record::{Record, RecordFault};
-use refusal::Refusal;
 use run::{Breach, Event, Snapshot};
 use std::alloc::{AllocError, Global};
-
-/// What is counted.
-#[derive(Clone, Copy)]
-pub enum Mark {
-    /// Every event.
-    Standing,
-    /// A read that has its source.
-    Tied,
-    /// A write that is settled.
-    Settled,
-}
+use std::fmt;
 
 /// What a record holds: its events, ties and settlings, and where it is not sound.
-#[derive(Clone, Copy)]
+#[derive(Clone, Copy, PartialEq, Eq, Debug)]
 pub struct Summary {
     pub events: u8,
     pub ties: u8,
@@ -32,30 +23,16 @@ pub struct Summary {
     pub breach: Option<Breach>,
 }
 
-fn marked(mark: Mark, event: Option<Event>) -> bool
-    ensures { result ≡ holds event (marked mark) }
+/// How many events have a mark.
+fn count<F: Fn(&Event) -> bool>(events: &Snapshot, has_mark: F) -> u8
+    requires { F.IsAlwaysCallable has_mark }
+    ensures { (mark : Event → Bool) → ((e : Event) → (b : Bool) → FnReturnsAt F.Fn has_mark e b → b ≡ mark e) → Counts (AtMark mark (table_run events.now.events)) result }
 {
-    match event {
-        None => false,
-        Some(found) => match mark {
-            Mark::Standing => true,
-            Mark::Tied => found.source.is_some(),
-            Mark::Settled => found.settled,
-        },
-    }
-}
-
-/// How many events have the mark.
-fn count(events: &Snapshot, mark: Mark) -> u8
-    ensures { Counts (AtMark mark (table_run events.now.events)) result }
-{
-    let mut found = 0;
-    for n in 0..32u8 {
-        if marked(mark, events.events[n as usize]) {
-            found += 1;
-        }
-    }
-    found
+    let marked = events
+        .events
+        .iter()
+        .filter(|event| event.is_some_and(|event| has_mark(&event)));
+    marked.count() as u8
 }
 
 /// Sums up a record, or tells its fault.
@@ -65,46 +42,46 @@ pub fn sum_up(bytes: &[u8]) -> Result<Summary, RecordFault>
     let record = Record::read(bytes)?;
     let events = Snapshot::of(&record);
     Ok(Summary {
-        events: count(&events, Mark::Standing),
-        ties: count(&events, Mark::Tied),
-        settled: count(&events, Mark::Settled),
+        events: count(&events, |_| true),
+        ties: count(&events, |event| event.source.is_some()),
+        settled: count(&events, |event| event.settled),
         breach: events.examine(),
     })
 }
 
-fn breach_text(heap: Global, rule: u8, event: u8) -> Result<String, AllocError>
-    ensures { IfOk result (λ t. string_bytes t ≡ breach_text rule event) }
-{
-    format!(in heap; "UNSOUND RULE {rule} EVENT {event}")
-}
+/// The line on whether a run is sound.
+#[derive(Clone, Copy)]
+struct Verdict(Option<Breach>);
 
-fn verdict_text(heap: Global, breach: Option<Breach>) -> Result<String, AllocError>
-    ensures { IfOk result (λ t. string_bytes t ≡ verdict_text breach) }
-{
-    match breach {
-        None => String::from_str(heap, "SOUND"),
-        Some(found) => breach_text(heap, found.rule.number(), found.event),
+impl fmt::Display for Verdict {
+    ghost output = { λ v. Some (verdict_text v.0) };
+
+    fn fmt<W: fmt::Write>(&self, f: &mut fmt::Formatter<W>) -> fmt::Result {
+        match self.0 {
+            None => write!(f, "SOUND"),
+            Some(breach) => {
+                let rule = breach.rule.number();
+                let event = breach.event;
+                write!(f, "UNSOUND RULE {rule} EVENT {event}")
+            }
+        }
     }
 }
 
 /// The two lines of a summary.
-fn summary_text(heap: Global, summary: Summary) -> Result<String, AllocError>
-    ensures { IfOk result (λ t. string_bytes t ≡ summary_text summary) }
-{
-    let events = summary.events;
-    let ties = summary.ties;
-    let settled = summary.settled;
-    let verdict = verdict_text(heap, summary.breach)?;
-    format!(in heap; "EVENTS {events} TIES {ties} SETTLED {settled}\n{verdict}")
-}
+impl fmt::Display for Summary {
+    ghost output = { λ s. Some (summary_text s) };
 
-/// The line of a refusal.
-fn refusal_text(heap: Global, refusal: Refusal) -> Result<String, AllocError>
-    ensures { IfOk result (λ t. string_bytes t ≡ refusal_text refusal) }
-{
-    let number = refusal.number;
-    let place = refusal.place;
-    format!(in heap; "REFUSED {number} {place}")
+    fn fmt<W: fmt::Write>(&self, f: &mut fmt::Formatter<W>) -> fmt::Result {
+        let events = self.events;
+        let ties = self.ties;
+        let settled = self.settled;
+        let verdict = Verdict(self.breach);
+        write!(
+            f,
+            "EVENTS {events} TIES {ties} SETTLED {settled}\n{verdict}"
+        )
+    }
 }
 
 /// What the program says of the bytes of a record: what it holds, or why it is refused.
@@ -112,7 +89,7 @@ pub fn account(heap: Global, bytes: &[u8]) -> Result<String, AllocError>
     ensures { IfOk result (λ t. Told bytes.now (string_bytes t)) }
 {
     match sum_up(bytes) {
-        Ok(summary) => summary_text(heap, summary),
-        Err(fault) => refusal_text(heap, fault.refusal()),
+        Ok(summary) => summary.to_string(heap),
+        Err(fault) => fault.refusal().to_string(heap),
     }
 }

@@ -1,18 +1,20 @@
-use Rattle.std.proofs.Common.{sym, arith, rules}
-use Rattle.std.proofs.lemmas.Bool.Decides.{nat_tests}
-use Rattle.finite.proofs.Counts.{count_none, count_more, count_below_le}
-use Rattle.run.specs.Tests.{table_run}
-use Rattle.summary.proofs.Marks.{test, counted}
+use Rattle.std.proofs.Common.{◌≡◌, Bool, length, refl, ◌∙◌, Bor, rules}
+use Rattle.std.proofs.lemmas.Fn.{says_at}
+use Rattle.std.proofs.lemmas.Iterator.{YieldsList-from_slice}
+use Rattle.std.proofs.lemmas.Iterator.Consumers.{YieldsList-from_filter, count_from_yields_List}
+use Rattle.std.proofs.lemmas.List.Sums.{length-filter}
+use Rattle.run.specs.declared.event.Event.{Event}
+use Rattle.run.specs.Tests.{holds}
+use Rattle.summary.proofs.Marks.{counted}
 use Rattle.summary.proofs.count.Goals as goal
 
-pub loop-n-init : goal.loop-n-init
-loop-n-init c = sym (count_none _)
-
-pub overflow_add-found : goal.overflow_add-found
-overflow_add-found c = let h = count_below_le (test c.args.mark (table_run c.args.events.now.events)) c.loop-n.n in search rules
-
-pub loop-n-preserved : goal.loop-n-preserved
-loop-n-preserved c = let e = count_more (test c.args.mark (table_run c.args.events.now.events)) c.loop-n.n in grind (arith, nat_tests)
-
 pub returns : goal.returns
-returns c = counted c.args.mark _ c.loop-n.n _ (omega arith) c.loop-n.invariant
+returns g c =
+    λ mark is.
+    let events = c.args.events.now.events in
+    let long : length events ≡ 32 = search rules in
+    let told : (y : Bor Event) (r : Bool) → g.F.Fn.post c.args.has_mark (y, tt) r → r ≡ mark y.now = λ y r p. is y.now r (says_at g.F.Fn p refl) in
+    let found =
+    count_from_yields_List _ _ c.count.ensures.ran
+    (YieldsList-from_filter _ (λ o. holds o mark) (YieldsList-from_slice events (cc)) c.filter-marked.ensures.closure (λ x b q k. search (rules, told)))
+    in counted mark events _ long (found ∙ length-filter (λ o. holds o mark) events)

@@ -1,6 +1,7 @@
+use Rattle.std.proofs.Common.{rules}
 use Rattle.run.proofs.Same.{examined_shown}
-use Rattle.summary.specs.declared.Mark.TheVariants.{Standing, Tied, Settled}
 use Rattle.summary.proofs.Marks.{counted_shown}
+use Rattle.summary.specs.Sums.{any_mark, tie_mark, settled_mark}
 use Rattle.summary.proofs.sum_up.Goals as goal
 
 pub returns : goal.returns
@@ -9,9 +10,9 @@ returns c =
       _,
       c.in_ok-record.ensures.reads.1,
       record {
-        events = counted_shown Standing _ _ _ shows c.count.ensures;
-        ties = counted_shown Tied _ _ _ shows c.count-2.ensures;
-        settled = counted_shown Settled _ _ _ shows c.count-3.ensures;
+        events = counted_shown any_mark _ _ _ shows (c.count.ensures any_mark (λ e b k. search rules));
+        ties = counted_shown tie_mark _ _ _ shows (c.count-2.ensures tie_mark (λ e b k. search rules));
+        settled = counted_shown settled_mark _ _ _ shows (c.count-3.ensures settled_mark (λ e b k. search rules));
         sound = examined_shown _ _ _ shows c.examine.ensures;
       },
     )
