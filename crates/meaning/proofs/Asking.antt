@@ -1,6 +1,6 @@
 -- What checks ask of meanings that are the same. Assumes nothing.
-use Rattle.std.proofs.Common.{◌≡◌, Bool, true, false, not, List, [], ◌++◌, Decides, subst}
-use mathlib.Core.Path.{subst⁻¹}
+use Rattle.std.proofs.Common.{Bool, true, false, not, List, [], ◌++◌, Decides, subst}
+use Rattle.std.specs.Bool.{beq}
 use Rattle.std.proofs.lemmas.List.{append-nil}
 use Rattle.std.proofs.lemmas.Bool.Decides.{Decides-like, Decides-not}
 use Rattle.relation.specs.declared.value.Value.{Value}
@@ -34,6 +34,13 @@ turned_as : (b : Bool) {P Q : Type 0} → (P → Q) → (Q → P) → Turned b P
 turned_as true f g h = λ q. h (g q)
 turned_as false f g h = f h
 
+-- what is asked, turned where it is negated
+turned_asked : (b r : Bool) (P : Type 0) → Decides r P → Decides (not (beq r b)) (Turned b P)
+turned_asked true true P d = Decides-not true d
+turned_asked true false P d = Decides-not false d
+turned_asked false true P d = d
+turned_asked false false P d = d
+
 -- a check that is good under some meanings is good under the same
 pub good_as : (base : Base) (ks js : List Meaning) → SameAll ks js → (c : Claim) → Good base ks c → Good base js c
 good_as base ks js h c g =
@@ -54,9 +61,6 @@ module _ (base : Base) (known : List Meaning) (c : Claim) (v : Value) (r : Bool)
       let s = means_same v n (subst (λ ks. Means v (meaning base ks c.term)) (append-nil known) m) in
       Decides-like r (asked_as c.word (value_meaning v) n s) (asked_as c.word n (value_meaning v) (same_sym (value_meaning v) n s)) d
 
-  -- of a check as it stands, and of one that is negated
-  pub good_plain : c.negated ≡ false → Decides r (Good base known c)
-  good_plain e = subst⁻¹ (λ b. Decides r (Turned b (Asked c.word (meaning base known c.term)))) e term_asked
-
-  pub good_negated : c.negated ≡ true → Decides (not r) (Good base known c)
-  good_negated e = subst⁻¹ (λ b. Decides (not r) (Turned b (Asked c.word (meaning base known c.term)))) e (Decides-not r term_asked)
+  -- what is asked of a check
+  pub good_asked : Decides (not (beq r c.negated)) (Good base known c)
+  good_asked = turned_asked c.negated r (Asked c.word (meaning base known c.term)) term_asked

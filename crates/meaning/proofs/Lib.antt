@@ -1,5 +1,6 @@
 pub mod Valued
 pub mod Knowing
 pub mod Gone
+pub mod Alike
 pub mod Asking
 pub mod Tallying

@@ -13,5 +13,6 @@ pub mod Rising
 pub mod Sameness
 pub mod Evaluated
 pub mod Operated
+pub mod Kinds
 pub mod Totals
 pub mod Rounds

@@ -1,11 +1,10 @@
 -- Tables of relations, and the places of lists. Assumes nothing.
-use Rattle.std.specs.Prelude.{◌≡◌, ℕ, zero, suc, ◌+◌, ◌<◌, ◌≤◌, Bool, ◌&&◌, List, [], ◌∷◌, map, length, replicate, Decides, ◌==◌, nat_lt, slice_index, slice_index_or, slice_set, refl}
+use Rattle.std.specs.Prelude.{◌≡◌, ℕ, zero, suc, ◌+◌, ◌<◌, ◌≤◌, ◌&&◌, List, [], ◌∷◌, map, length, replicate, ◌==◌, nat_lt, slice_index, slice_index_or, slice_set, refl}
 use Rattle.std.proofs.Common.{sym, ◌∙◌, ap, subst, inl, inr, ⊎_elim, arith}
 use Rattle.std.proofs.Math.Path.{subst⁻¹}
 use Rattle.std.proofs.Math.Logic.Iff
 use Rattle.std.proofs.lemmas.List.{get_or_past, get_or-replicate, get_or-set_same, get_or-set_other, length-set}
 use Rattle.std.proofs.lemmas.Bool.{cases_eq, and_parts, and_from, ltb-true, lt-ltb, eqb-true, eq-eqb}
-use Rattle.std.proofs.lemmas.Bool.Decides.{Decides-and, Decides-like}
 use Rattle.finite.specs.Lists.{At}
 use Rattle.relation.specs.declared.relation.Relation.{Relation}
 use Rattle.relation.specs.Relations.{Pairs, Union, SamePairs}
@@ -59,18 +58,6 @@ filling_more n old found r R l f s =
           let ne : i ≡ n → ⊥ = λ e. omega (arith, e) in
           ap (λ x. x.rows) (get_or-set_other found n i r (record { rows = [] }) ne) ∙ f.rest i (omega arith);
     }
-
--- the tables relate the same below a slot
-abbrev pub AlikeBelow : ℕ → List Relation → List Relation → Type 0
-AlikeBelow n xs ys = (i : ℕ) → i < n → SamePairs (Table xs i) (Table ys i)
-
--- after one more slot
-pub alike_more : (n : ℕ) (xs ys : List Relation) (t r : Bool) → Decides r (AlikeBelow n xs ys) → Decides t (SamePairs (Table xs n) (Table ys n)) → Decides (t && r) (AlikeBelow (n + 1) xs ys)
-alike_more n xs ys t r d e =
-    Decides-like (t && r)
-    (λ h i l. ⊎_elim (λ same. subst⁻¹ (λ k. SamePairs (Table xs k) (Table ys k)) same h.0) (λ ne. h.1 i (omega arith)) (cases_eq i n))
-    (λ h. (h n (omega arith), λ i l. h i (omega arith)))
-    (Decides-and t r e d)
 
 -- the relations of a table as data
 abbrev pub candidates : List Relation → Candidates

@@ -20,11 +20,7 @@ use term::statement::{Check, Mark};
 pub fn is_flag(mark: &Mark) -> bool
     ensures { result ≡ is_flag (mark_of mark.now) }
 {
-    match mark {
-        Mark::Plain => false,
-        Mark::Labelled(_) => false,
-        Mark::Flagged(_) => true,
-    }
+    matches!(mark, Mark::Flagged(_))
 }
 
 /// Whether a value has nothing in it.
@@ -53,7 +49,7 @@ pub fn holds(base: &Base, known: &[Value], check: &Check) -> bool
     ensures { Decides result (Good (base_meaning base.now) (map value_meaning known.now) (claim_of check.now)) }
 {
     let asked = is_as_asked(check.word, evaluate(base, known, &[], &check.term));
-    if check.negated { !asked } else { asked }
+    asked != check.negated
 }
 
 /// How many checks there are behind a statement, of at most 16.

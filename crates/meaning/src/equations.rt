@@ -42,16 +42,14 @@ impl<'a, 'b, 'c> Equations for Group<'a, 'b, 'c> {
     }
 
     fn value(&self, found: &[Relation; 64], slot: usize) -> Relation {
-        let many = self.bindings.len().min(64);
-        if slot < self.bindings.len() {
-            pairs_in(evaluate(
+        match self.bindings.get(slot) {
+            Some(binding) => pairs_in(evaluate(
                 self.base,
                 self.known,
-                &found[..many],
-                &self.bindings[slot].term,
-            ))
-        } else {
-            Relation::none()
+                &found[..self.count()],
+                &binding.term,
+            )),
+            None => Relation::none(),
         }
     }
 }

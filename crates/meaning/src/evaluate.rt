@@ -17,12 +17,14 @@ use term::Term;
 fn named(known: &[Value], found: &[Relation], number: usize) -> Value
     ensures { Means result (slice_index_or (map value_meaning known.now ++ map relation_meaning found.now) number (of_pairs Never)) }
 {
-    if number < known.len() {
-        known[number]
-    } else if number - known.len() < found.len() {
-        Value::pairs(found[number - known.len()])
-    } else {
-        Value::pairs(Relation::none())
+    match known.get(number) {
+        Some(value) => *value,
+        None => Value::pairs(
+            found
+                .get(number - known.len())
+                .copied()
+                .unwrap_or(Relation::none()),
+        ),
     }
 }
 

@@ -3,8 +3,9 @@ ghost use Rattle.relation.specs.Sets.{SameEvents};
 ghost use Rattle.relation.specs.Relations.{SamePairs};
 ghost use Rattle.relation.specs.Masks.{Member, Related};
 ghost use Rattle.relation.specs.Values.{Means};
-ghost use Rattle.meaning.specs.Operators.{events_of, pairs_of, either, both, without, outside, infixed, postfixed, tested};
+ghost use Rattle.meaning.specs.Operators.{events_of, pairs_of, outside, infixed, postfixed, tested};
 ghost use Rattle.meaning.specs.Tables.{value_meaning};
+ghost use Rattle.meaning.specs.Kinds.{OfOneKind};
 
 use relation::{Kind, Relation, Value, mask};
 use sentence::sign::{Infix, Post};
@@ -29,33 +30,20 @@ pub fn pairs_in(value: Value) -> Relation
     }
 }
 
-/// What is in either of two values of one kind.
-fn either(left: Value, right: Value) -> Value
-    ensures { Means result (either (value_meaning left) (value_meaning right)) }
+/// An operator between two values of one kind, by the kind of the first: the one on sets, or the one on relations.
+fn alike<F: Fn(u32, u32) -> u32, G: Fn(Relation, Relation) -> Relation>(
+    left: Value,
+    right: Value,
+    sets: F,
+    relations: G,
+) -> Value
+    requires sets { F.IsAlwaysCallable sets }
+    requires relations { G.IsAlwaysCallable relations }
+    ensures { OfOneKind (F.post sets) (G.post relations) left right result }
 {
     match left.kind {
-        Kind::Events => Value::events(mask::union(left.mask, events_in(right))),
-        Kind::Pairs => Value::pairs(left.relation().union(pairs_in(right))),
-    }
-}
-
-/// What is in both of two values of one kind.
-fn both(left: Value, right: Value) -> Value
-    ensures { Means result (both (value_meaning left) (value_meaning right)) }
-{
-    match left.kind {
-        Kind::Events => Value::events(mask::intersection(left.mask, events_in(right))),
-        Kind::Pairs => Value::pairs(left.relation().intersection(pairs_in(right))),
-    }
-}
-
-/// What is in the first of two values of one kind, and not in the second.
-fn without(left: Value, right: Value) -> Value
-    ensures { Means result (without (value_meaning left) (value_meaning right)) }
-{
-    match left.kind {
-        Kind::Events => Value::events(mask::difference(left.mask, events_in(right))),
-        Kind::Pairs => Value::pairs(left.relation().difference(pairs_in(right))),
+        Kind::Events => Value::events(sets(left.mask, events_in(right))),
+        Kind::Pairs => Value::pairs(relations(left.relation(), pairs_in(right))),
     }
 }
 
@@ -74,10 +62,10 @@ pub fn infixed(sign: Infix, left: Value, right: Value) -> Value
     ensures { Means result (infixed sign (value_meaning left) (value_meaning right)) }
 {
     match sign {
-        Infix::Bar => either(left, right),
+        Infix::Bar => alike(left, right, mask::union, Relation::union),
         Infix::Semicolon => Value::pairs(pairs_in(left).sequence(pairs_in(right))),
-        Infix::Backslash => without(left, right),
-        Infix::Ampersand => both(left, right),
+        Infix::Backslash => alike(left, right, mask::difference, Relation::difference),
+        Infix::Ampersand => alike(left, right, mask::intersection, Relation::intersection),
         Infix::Product => Value::pairs(Relation::product(events_in(left), events_in(right))),
     }
 }

@@ -11,16 +11,6 @@ pub struct Outcome {
     pub flags: u32,
 }
 
-/// The failure that is kept: the first.
-fn first_of(failure: Option<u8>, number: u8, fails: bool) -> Option<u8>
-    ensures { result ≡ first_of failure number fails }
-{
-    match failure {
-        Some(first) => Some(first),
-        None => { if fails { Some(number) } else { None } }
-    }
-}
-
 /// The bits, and that of the number if it is up.
 fn raised(flags: u32, number: u8, up: bool) -> u32
     requires { number < 16 }
@@ -52,8 +42,8 @@ impl Outcome {
         ensures flags { RaisesBit self.flags number (flag && good) result.flags }
     {
         Outcome {
-            failure: first_of(self.failure, number, !flag & !good),
-            flags: raised(self.flags, number, flag & good),
+            failure: self.failure.or((!flag && !good).then_some(number)),
+            flags: raised(self.flags, number, flag && good),
         }
     }
 }

@@ -18,14 +18,6 @@ pub struct Solving<E> {
     pub found: [Relation; 64],
 }
 
-/// A copy of a table of relations.
-fn copied(found: &[Relation; 64]) -> [Relation; 64]
-    ensures same { result ≡ found.now }
-    ensures long { length result ≡ 64 }
-{
-    *found
-}
-
 /// The climb to the least solution.
 impl<E: Equations + Copy> Ascent for Solving<E> {
     ghost begins = { SolvingBegins };
@@ -65,7 +57,7 @@ impl<E: Equations + Copy> Ascent for Solving<E> {
 
     fn step(&self) -> Solving<E> {
         let equations = self.equations;
-        let mut found = copied(&self.found);
+        let mut found = self.found;
         for slot in 0..equations.count() {
             found[slot] = self.found[slot].union(equations.value(&self.found, slot));
         }
@@ -73,11 +65,10 @@ impl<E: Equations + Copy> Ascent for Solving<E> {
     }
 
     fn is(&self, other: &Solving<E>) -> bool {
-        let mut same = true;
-        for slot in 0..self.equations.count() {
-            same = self.found[slot].is(other.found[slot]) & same;
-        }
-        same
+        let found = self.found.iter().zip(&other.found);
+        found
+            .take(self.equations.count())
+            .all(|(mine, theirs)| mine.is(*theirs))
     }
 }
 

@@ -1,12 +1,17 @@
-use Rattle.std.proofs.Common.{arith}
-use Rattle.meaning.specs.Evaluated.{known_at, found_means, nothing_means}
+use Rattle.std.proofs.Common.{ap, ◌∙◌, subst, arith}
+use Rattle.std.specs.Option.{unwrap_or}
+use Rattle.relation.specs.Values.{Means}
+use Rattle.meaning.specs.Tables.{relation_meaning}
+use Rattle.meaning.specs.Evaluated.{known_at, found_means}
 use Rattle.meaning.proofs.evaluate.named.Goals as goal
 
-pub returns-then-number-known : goal.returns-then-number-known
-returns-then-number-known c = known_at c.args.known.now _ c.args.number _ (omega arith)
+pub returns-in-Some : goal.returns-in-Some
+returns-in-Some c =
+    let h = c.in-Some.ensures.lookup in
+    known_at c.in-Some.value.now c.args.known.now _ c.args.number h.3.0 h.1
 
-pub returns-then-number-known-2 : goal.returns-then-number-known-2
-returns-then-number-known-2 c = found_means _ c.args.known.now c.args.found.now c.args.number _ (omega arith) (omega arith) c.pairs.ensures
-
-pub returns-else-number-known-2 : goal.returns-else-number-known-2
-returns-else-number-known-2 c = nothing_means _ c.args.known.now c.args.found.now c.args.number (omega arith) (omega arith) c.pairs-else-number-known-2.ensures c.none.ensures
+pub returns-in-None : goal.returns-in-None
+returns-in-None c =
+    let none = c.none.result in
+    found_means c.pairs.result c.args.known.now c.args.found.now c.args.number none c.in-None.ensures.lookup.3 c.none.ensures
+    (subst (λ r. Means c.pairs.result (relation_meaning r)) (c.unwrap_or.ensures ∙ ap (λ o. unwrap_or o none) c.copied.ensures ∙ c.get-in-None.ensures.lookup.4 (omega arith) none) c.pairs.ensures)

@@ -1,12 +1,14 @@
-use Rattle.std.proofs.Common.{arith}
-use Rattle.std.proofs.lemmas.Bool.Decides.{Decides-like}
-use Rattle.meaning.specs.Placed.{alike_more}
+use Rattle.std.proofs.Common.{arith, rules, tests}
+use Rattle.std.proofs.lemmas.Iterator.{YieldsList-from_slice, YieldsList-from_zip, YieldsList-from_take, cases_from_all}
+use Rattle.std.proofs.lemmas.Iterator.Consumers.{YieldsList-at}
+use Rattle.meaning.proofs.Alike.{AlikePair, alike_all}
 use Rattle.meaning.proofs.solving.SolvingAscent.is.Goals as goal
-
-pub loop-slot-preserved : goal.loop-slot-preserved
-loop-slot-preserved g c = alike_more c.loop-slot.slot c.args.self.now.found c.args.other.now.found _ _ c.loop-slot.invariant c.is-same.ensures
 
 pub returns : goal.returns
 returns g c =
-    Decides-like c.loop-slot.same (λ h i l. h i (omega (arith, l, c.count-slot-end.ensures, c.loop-slot-test.false))) (λ h i l. h i (omega (arith, l, c.count-slot-end.ensures, c.loop-slot.auto.slot-end)))
-    c.loop-slot.invariant
+    let xs = c.args.self.now.found in
+    let ys = c.args.other.now.found in
+    alike_all c.count.result _ xs ys c.all.result c.count.ensures (omega (arith, c.count.ensures)) (omega (arith, c.count.ensures))
+    (cases_from_all c.all.new.self _ _ AlikePair (λ p. AlikePair p → ⊥) c.all.ensures.ran
+    (YieldsList-from_take {s = c.take.result} c.count.result (YieldsList-at c.take.ensures.source (YieldsList-from_zip {s = c.zip-found.result} (YieldsList-from_slice xs cc) (YieldsList-from_slice ys cc))) (cc))
+    (λ x q k. search (rules, tests)) (λ x q k. search (rules, tests)))

@@ -5,7 +5,7 @@ use Rattle.meaning.specs.Placed.{filling_none, filling_more, union_as}
 use Rattle.meaning.proofs.solving.SolvingAscent.step.Goals as goal
 
 pub loop-slot-init : goal.loop-slot-init
-loop-slot-init g c = filling_none c.args.self.now.found c.copied-found.result _ c.copied-found.ensures.same c.copied-found.ensures.long
+loop-slot-init g c = filling_none c.args.self.now.found c.args.self.now.found _ refl (omega arith)
 
 pub loop-slot-preserved : goal.loop-slot-preserved
 loop-slot-preserved g c =
