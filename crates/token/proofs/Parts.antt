@@ -1,14 +1,16 @@
 -- What the code makes of a stretch: its token and its length. Assumes nothing.
-use Rattle.std.proofs.Common.{◌≡◌, ℕ, suc, ◌+◌, ◌<◌, ◌≤◌, Bool, true, false, cond, eqb, List, [], ◌∷◌, ◌++◌, length, get_or, take, drop, Some, sym, refl, ap, ◌∙◌, subst, arith, length-append}
+use Rattle.std.proofs.Common.{◌≡◌, ℕ, suc, ◌+◌, ◌≤◌, Bool, true, false, cond, eqb, List, [], ◌∷◌, ◌++◌, length, take, Some, sym, refl, ap, ◌∙◌, subst, arith, length-append}
+use Rattle.std.specs.Bool.{then_some}
 use Rattle.std.specs.Str.{bytes_eq}
 use Rattle.std.proofs.lemmas.Slice.Eq.{bytes_eq-Decides}
 use Rattle.std.proofs.lemmas.List.{length-take-le}
-use Rattle.std.proofs.lemmas.Bool.{cond_both, cond-true, cond-false, eq-eqb, ne_eqb}
+use Rattle.std.proofs.lemmas.Bool.{cond_both, cond-false, ne_eqb}
 use Rattle.token.specs.Classes.{class}
 use Rattle.token.specs.Tokens.{Reserved, let_word, rec_word, and_word, acyclic_word, irreflexive_word, empty_word, flag_word, as_word, Word, name, title, key, sign, open_round, Symbol, keyword, symbol, spelling}
 use Rattle.token.specs.Lexing.{token}
 use Rattle.token.specs.Items.{run, quote_from, end_from, word_of, titled, commented, when, opened, begun, item_of}
-use Rattle.token.specs.Views.{Part, gap, word, wrong, parted}
+use Rattle.token.specs.declared.piece.Piece.{Piece}
+use Rattle.token.specs.Views.{gap, word, piece_view, parted}
 use Rattle.token.proofs.Items.{run_splits, Quoted, quote_splits, Ended, end_splits}
 
 -- a word is written with its bytes
@@ -56,29 +58,24 @@ comment_part text k h =
     let size : k + 4 ≡ suc (suc (length (take k text ++ (42 ∷ 41 ∷ [])))) = omega (arith, length-append (take k text) (42 ∷ 41 ∷ []), length-take-le k text (omega arith)) in
     ap gap size ∙ ap (λ o. parted (commented o text)) h
 
-pub open_comment : (text behind : List ℕ) → get_or text 0 0 ≡ 42 → behind ≡ drop 1 text → (p : Part) → p ≡ parted (commented (end_from 0 behind) behind) → p ≡ parted (opened text)
+pub open_comment : (text inside : List ℕ) → text ≡ 42 ∷ inside → parted (commented (end_from 0 inside) inside) ≡ parted (opened text)
 unfolding opened
-open_comment text behind h is p e = e ∙ ap (λ l. parted (commented (end_from 0 l) l)) is ∙ ap parted (sym (cond-true (eqb (get_or text 0 0) 42) _ _ (eq-eqb (get_or text 0 0) 42 h)))
+open_comment text inside h = ap (λ l. parted (opened l)) (sym h)
 
-pub open_part : (text : List ℕ) → (get_or text 0 0 ≡ 42 → ⊥) → word (sign open_round) 1 ≡ parted (opened text)
+pub open_part : (text : List ℕ) → ((rest : List ℕ) → text ≡ 42 ∷ rest → ⊥) → word (sign open_round) 1 ≡ parted (opened text)
 unfolding opened
-open_part text h = ap parted (sym (cond-false (eqb (get_or text 0 0) 42) (commented (end_from 0 (drop 1 text)) (drop 1 text)) (Some (token (sign open_round))) (ne_eqb (get_or text 0 0) 42 h)))
-
-pub some_byte : (text : List ℕ) → get_or text 0 0 ≡ 42 → 1 ≤ length text
-some_byte [] h = absurd (omega arith)
-some_byte (b ∷ text) h = omega arith
+open_part [] h = refl
+open_part (b ∷ text) h = ap parted (sym (cond-false (eqb b 42) (commented (end_from 0 text) text) (Some (token (sign open_round))) (ne_eqb b 42 (λ e. h text (ap (λ x. x ∷ text) e)))))
 
 -- what begins with a byte of a known class
-pub begun_at : (text : List ℕ) (c : ℕ) → 0 < length text → class (get_or text 0 0) ≡ c → begun c (get_or text 0 0) (drop 1 text) ≡ item_of text
-begun_at [] c l h = absurd (omega arith)
-begun_at (b ∷ rest) c l h = ap (λ k. begun k b rest) (sym h)
+pub begun_at : (text : List ℕ) (b : ℕ) (rest : List ℕ) (c : ℕ) → text ≡ b ∷ rest → c ≡ class b → begun c b rest ≡ item_of text
+begun_at text b rest c is h = ap (λ k. begun k b rest) h ∙ ap item_of (sym is)
 
-pub word_begun : (text : List ℕ) → 0 < length text → class (get_or text 0 0) ≡ 2 → Some (token (word_of (take (run 0 text) text))) ≡ item_of text
+pub word_begun : (text : List ℕ) (b : ℕ) (rest : List ℕ) → text ≡ b ∷ rest → 2 ≡ class b → Some (token (word_of (take (run 0 text) text))) ≡ item_of text
 unfolding begun
-word_begun [] l h = absurd (omega arith)
-word_begun (b ∷ rest) l h = ap (λ k. begun k b rest) (sym h)
+word_begun text b rest is h = ap (λ l. Some (token (word_of (take (run 0 l) l)))) is ∙ begun_at text b rest 2 is h
 
--- one byte that is a token
-pub lone_part : (s : Symbol) (b : Bool) → length (symbol s) ≡ 1 → cond b (word (sign s) 1) wrong ≡ parted (when b s)
-lone_part s true h = ap (word (sign s)) (sym h)
-lone_part s false h = refl
+-- a token, if a test holds
+pub when_part : (s : Symbol) (b : Bool) (p : Piece) → piece_view (Some p) ≡ word (sign s) (length (symbol s)) → piece_view (then_some b p) ≡ parted (when b s)
+when_part s true p h = h
+when_part s false p h = refl

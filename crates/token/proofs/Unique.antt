@@ -1,15 +1,13 @@
 -- A text has one lexing, or one first stray byte. Assumes nothing.
-use Rattle.std.proofs.Common.{◌≡◌, ℕ, ◌+◌, ◌≤◌, List, [], ◌∷◌, ◌++◌, length, get_or, drop, Some, None, Ok, Err, Option, sym, refl, ap, ◌∙◌, subst, arith, length-append}
+use Rattle.std.proofs.Common.{◌≡◌, ℕ, ◌≤◌, List, [], ◌∷◌, ◌++◌, length, get_or, Some, None, Ok, Err, Option, sym, refl, ap, ◌∙◌, subst, arith, length-append}
 use Rattle.std.proofs.lemmas.List.{get_or_at, append_cancel_left}
 use Rattle.token.specs.declared.fault.ReadFault.TheVariants.{TooLong, Stray, TooManyTokens, Memory}
-use Rattle.token.specs.Tokens.{Word, spelling}
-use Rattle.token.specs.Lexing.{Item, token, spell, spelled, Proper, Reads, tokens, Lexes, Stuck, Strays}
+use Rattle.token.specs.Tokens.{Word}
+use Rattle.token.specs.Lexing.{Item, spell, spelled, Proper, Reads, tokens, Lexes, Stuck, Strays}
 use Rattle.token.specs.Items.{item_of}
-use Rattle.token.specs.Views.{word, parted}
-use Rattle.token.specs.Lexings.{Lexable, Crowded, OneLexing}
+use Rattle.token.specs.Lexings.{Crowded, OneLexing}
 use Rattle.token.proofs.Never.{no_way}
 use Rattle.token.proofs.Begins.{stands_found, found_stands}
-use Rattle.token.proofs.Walks.{Walked, tokens_after, word_found}
 
 -- one stretch begins a text
 begins_one : (text : List ℕ) (i j : Item) (m n : List ℕ) → text ≡ spell i ++ m → Proper i m → text ≡ spell j ++ n → Proper j n → (i ≡ j) × (m ≡ n)
@@ -28,15 +26,6 @@ reads_one text (i ∷ a) (j ∷ b) x y (m, e, p, r) (n, f, q, s) h k =
     let same = begins_one text i j m n e p f q in
     let rest = reads_one m a b x y r (subst (λ l. Reads l b y) (sym same.1) s) h k in
     (ap (λ k. k ∷ a) same.0 ∙ ap (λ l. j ∷ l) rest.0, rest.1)
-
--- a walk goes on to the end as the whole one does
-pub reads_on : (text : List ℕ) (a b : List Item) (x : List ℕ) → Reads text a x → Reads text b [] → (tail : List Item) × (b ≡ a ++ tail) × Reads x tail []
-reads_on text [] b x r s = (b, refl, subst (λ l. Reads l b []) r s)
-reads_on text (i ∷ a) [] x (m, e, p, r) s = no_way (let z : None ≡ Some i = ap item_of (sym s) ∙ ap item_of e ∙ stands_found i m p in cc)
-reads_on text (i ∷ a) (j ∷ b) x (m, e, p, r) (n, f, q, s) =
-    let same = begins_one text i j m n e p f q in
-    let rest = reads_on m a b x r (subst (λ l. Reads l b []) (sym same.1) s) in
-    (rest.0, ap (λ k. k ∷ b) (sym same.0) ∙ ap (λ l. i ∷ l) rest.1, rest.2)
 
 -- where nothing begins, nothing is found
 pub stuck_none : (rest : List ℕ) → Stuck rest → item_of rest ≡ None
@@ -58,34 +47,6 @@ one_stray text place other a b =
 -- a text that lexes has no stray byte
 pub lexes_or_strays : (text : List ℕ) (found : List (ℕ × Word)) (place : ℕ) → Lexes text found → Strays text place → ⊥
 lexes_or_strays text found place a b = b.stuck.some (sym (reads_one text a.items b.items [] b.rest a.reads b.reads refl (stuck_none b.rest b.stuck)).1)
-
--- a token past 1,024 others of a text that lexes
-pub walked_crowded : (text : List ℕ) (at : ℕ) (found : List (ℕ × Word)) (v : Word) (n : ℕ) → Walked text at found → word v n ≡ parted (item_of (drop at text)) → length found ≡ 1024 → Lexable text → Crowded text at
-walked_crowded text at found v n w h full whole =
-    let on = reads_on text w.items whole.lexes.items (drop at text) w.reads whole.lexes.reads in
-    go on.0 on.1 on.2
-  where
-    is : item_of (drop at text) ≡ Some (token v)
-    is = (word_found (item_of (drop at text)) v n h).0
-
-    place : 0 + length (spelled w.items) ≡ at
-    place = (let z : 0 + length (spelled w.items) ≡ length (spelled w.items) = omega arith in z) ∙ sym w.here
-
-    go : (tail : List Item) → whole.lexes.items ≡ w.items ++ tail → Reads (drop at text) tail [] → Crowded text at
-    go [] e r = no_way (let z : None ≡ Some (token v) = ap item_of (sym r) ∙ is in cc)
-    go (i ∷ tail) e (m, f, p, r) =
-        let same : i ≡ token v = (let z : Some i ≡ Some (token v) = sym (stands_found i m p) ∙ ap item_of (sym f) ∙ is in cc) in
-        record {
-          found = whole.found;
-          lexes = whole.lexes;
-          before = found;
-          word = v;
-          after = tokens (at + length (spelling v)) tail;
-          splits =
-              whole.lexes.are ∙ ap (tokens 0) (e ∙ ap (λ k. w.items ++ (k ∷ tail)) same) ∙ tokens_after w.items (token v ∷ tail) 0
-              ∙ ap (λ k. tokens 0 w.items ++ tokens k (token v ∷ tail)) place ∙ ap (λ l. l ++ tokens at (token v ∷ tail)) (sym w.are);
-          full = full;
-        }
 
 -- a crowded text has one 1,025th token
 one_crowd : (text : List ℕ) (place other : ℕ) → Crowded text place → Crowded text other → place ≡ other

@@ -85,9 +85,6 @@ pub record Walked (text : List ℕ) (at : ℕ) (found : List (ℕ × Word)) : Ty
   pub here : at ≡ length (spelled items)
   pub are : found ≡ tokens 0 items
 
-pub walked_none : (text : List ℕ) → Walked text 0 []
-walked_none text = record { items = []; inside = omega arith; reads = refl; here = refl; are = refl }
-
 -- a stretch that was found at a place
 pub record Onward (text : List ℕ) (at : ℕ) (found : List (ℕ × Word)) (n : ℕ) : Type 0 where
   pub some : 0 < n

@@ -1,5 +1,7 @@
 -- Byte classes: which bytes are blanks, letters, digits, marks and signs. Assumes nothing.
 use Rattle.std.specs.Prelude.{◌≡◌, ℕ, ◌≤◌, Bool, false, cond, ◌&&◌, ◌||◌, ◌⊎◌, List, [], ◌∷◌, codes, ◌==◌, nat_le}
+use Rattle.token.specs.declared.class.Class.{Class}
+use Rattle.token.specs.declared.class.Class.TheVariants as kind
 
 -- one of the bytes of a list
 abbrev pub Among : List ℕ → ℕ → Type 0
@@ -38,6 +40,15 @@ Sign b = Among signs b
 -- a byte that can go on in a name
 abbrev pub GoesOn : ℕ → Type 0
 GoesOn b = Letter b ⊎ (Digit b ⊎ Mark b)
+
+-- the numbers of the classes
+abbrev pub class_number : Class → ℕ
+class_number kind.Other = 0
+class_number kind.Blank = 1
+class_number kind.Letter = 2
+class_number kind.Digit = 3
+class_number kind.Mark = 4
+class_number kind.Sign = 5
 
 -- the class of a byte, by its number; class 0 has all others
 pub record Classified (b c : ℕ) : Type 0 where

@@ -1,10 +1,12 @@
 -- What the code's tokens and pieces stand for, without pointers. Assumes nothing.
-use Rattle.std.specs.Prelude.{ℕ, length, Some, None, Option}
+use Rattle.std.specs.Prelude.{◌≡◌, ℕ, List, [], ◌∷◌, ◌++◌, length, Some, None, Err, Option, Result, Vec, vec_items, MatchResult, ◌≢◌}
+use Rattle.std.specs.declared.alloc.Global.{Global}
+use Rattle.token.specs.declared.fault.ReadFault.{ReadFault}
+use Rattle.token.specs.declared.fault.ReadFault.TheVariants.{TooLong, Stray, TooManyTokens, Memory}
 use Rattle.token.specs.declared.token.Token.{Token}
 use Rattle.token.specs.declared.token.Token.TheVariants.{Name, Title, Let, Rec, And, Acyclic, Irreflexive, Empty, Flag, As, Universe, NoPairs, NoEvents, Inverse, Open, Close, OpenSquare, CloseSquare, Bar, Semicolon, Backslash, Ampersand, Star, Tilde, Plus, Question, Equals}
 use Rattle.token.specs.declared.token.Lexeme.{Lexeme}
 use Rattle.token.specs.declared.piece.Piece.{Piece}
-use Rattle.token.specs.declared.piece.Piece.TheVariants as piece
 use Rattle.token.specs.Tokens.{let_word, rec_word, and_word, acyclic_word, irreflexive_word, empty_word, flag_word, as_word, universe, no_pairs, no_events, inverse, open_round, close_round, open_square, close_square, bar, semicolon, backslash, ampersand, star, tilde, plus, question, equals, Word, name, title, key, sign, spelling}
 use Rattle.token.specs.Lexing.{Item, blank, comment, token, spell}
 
@@ -47,10 +49,19 @@ pub data Part : Type 0 where
   word : Word → ℕ → Part
   wrong : Part
 
-abbrev pub piece_view : Piece → Part
-piece_view (piece.Gap n) = gap n
-piece_view (piece.Word t n) = word (view t) n
-piece_view piece.Wrong = wrong
+-- a token of so many bytes, if there is one
+abbrev pub token_view : Option Token → ℕ → Part
+token_view None n = wrong
+token_view (Some t) n = word (view t) n
+
+-- a stretch of so many bytes: without a token it is a gap
+abbrev pub stretch_view : Option Token → ℕ → Part
+stretch_view None n = gap n
+stretch_view (Some t) n = word (view t) n
+
+abbrev pub piece_view : Option Piece → Part
+piece_view None = wrong
+piece_view (Some p) = stretch_view p.token p.length
 
 abbrev pub part : Item → Part
 part (blank b) = gap (length (spell (blank b)))
@@ -60,3 +71,20 @@ part (token w) = word w (length (spelling w))
 abbrev pub parted : Option Item → Part
 parted None = wrong
 parted (Some i) = part i
+
+-- the lexemes with the token of a piece at a place behind them, if it has one
+abbrev pub Adds : List Lexeme → Option Token → ℕ → List Lexeme → Type 0
+Adds found None place kept = kept ≡ found
+Adds found (Some t) place kept = (length found ≢ 1024) × (kept ≡ found ++ (record { token = t; place = place } ∷ []))
+
+-- the piece has a token, and it is the 1,025th, or memory is wanting
+abbrev pub Refuses : List Lexeme → Option Token → ℕ → ReadFault → Type 0
+Refuses found None place fault = ⊥
+Refuses found (Some t) place TooLong = ⊥
+Refuses found (Some t) place (Stray there) = ⊥
+Refuses found (Some t) place (TooManyTokens there) = (length found ≡ 1024) × (place ≡ there)
+Refuses found (Some t) place Memory = Unit {0}
+
+-- one of the two comes of a piece behind tokens that were kept; behind one that could not be kept, its fault stays
+abbrev pub Keeps : Result (Vec Lexeme Global) ReadFault → Option Token → ℕ → Result (Vec Lexeme Global) ReadFault → Type 0
+Keeps old t place new = MatchResult old (λ found. MatchResult new (λ kept. Adds (vec_items found) t place (vec_items kept)) (Refuses (vec_items found) t place)) (λ fault. new ≡ Err fault)

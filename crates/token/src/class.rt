@@ -1,106 +1,131 @@
 //! Byte classes: a table, and its rule.
 ghost use Rattle.std.specs.Prelude.{◌≡◌};
-ghost use Rattle.token.specs.Classes.{class, Classified};
+ghost use Rattle.token.specs.Classes.{class, class_number, Classified};
 
-/// The class of every byte: 0 other, 1 blank, 2 letter, 3 digit, 4 mark, 5 sign.
-const CLASSES: [u8; 256] = [
-    0, 0, 0, 0, 0, 0, 0, 0, 0, 1, // tab
-    1, // line feed
-    0, 0, 1, // carriage return
-    0, 0, 0, 0, 0, 0, 0, 0, 0, 0, 0, 0, 0, 0, 0, 0, 0, 0, 1, // space
-    0, 5, // "
-    0, 0, 0, 5, // &
-    0, 5, // (
-    5, // )
-    5, // *
-    5, // +
-    0, 4, // -
-    4, // .
-    0, 3, // 0
-    3, // 1
-    3, // 2
-    3, // 3
-    3, // 4
-    3, // 5
-    3, // 6
-    3, // 7
-    3, // 8
-    3, // 9
-    0, 5, // ;
-    0, 5, // =
-    0, 5, // ?
-    0, 2, // A
-    2, // B
-    2, // C
-    2, // D
-    2, // E
-    2, // F
-    2, // G
-    2, // H
-    2, // I
-    2, // J
-    2, // K
-    2, // L
-    2, // M
-    2, // N
-    2, // O
-    2, // P
-    2, // Q
-    2, // R
-    2, // S
-    2, // T
-    2, // U
-    2, // V
-    2, // W
-    2, // X
-    2, // Y
-    2, // Z
-    5, // [
-    5, // \
-    5, // ]
-    5, // ^
-    4, // _
-    0, 2, // a
-    2, // b
-    2, // c
-    2, // d
-    2, // e
-    2, // f
-    2, // g
-    2, // h
-    2, // i
-    2, // j
-    2, // k
-    2, // l
-    2, // m
-    2, // n
-    2, // o
-    2, // p
-    2, // q
-    2, // r
-    2, // s
-    2, // t
-    2, // u
-    2, // v
-    2, // w
-    2, // x
-    2, // y
-    2, // z
-    5, // {
-    5, // |
-    5, // }
-    5, // ~
-    0, 0, 0, 0, 0, 0, 0, 0, 0, 0, 0, 0, 0, 0, 0, 0, 0, 0, 0, 0, 0, 0, 0, 0, 0, 0, 0, 0, 0, 0, 0, 0,
-    0, 0, 0, 0, 0, 0, 0, 0, 0, 0, 0, 0, 0, 0, 0, 0, 0, 0, 0, 0, 0, 0, 0, 0, 0, 0, 0, 0, 0, 0, 0, 0,
-    0, 0, 0, 0, 0, 0, 0, 0, 0, 0, 0, 0, 0, 0, 0, 0, 0, 0, 0, 0, 0, 0, 0, 0, 0, 0, 0, 0, 0, 0, 0, 0,
-    0, 0, 0, 0, 0, 0, 0, 0, 0, 0, 0, 0, 0, 0, 0, 0, 0, 0, 0, 0, 0, 0, 0, 0, 0, 0, 0, 0, 0, 0, 0, 0,
-    0,
+use Class::{Blank, Digit, Letter, Mark, Other, Sign};
+
+/// The classes of bytes.
+#[derive(Clone, Copy, PartialEq, Eq, Debug)]
+pub enum Class {
+    /// A byte that stands only in comments and titles.
+    Other,
+    /// A tabulator, a line feed, a carriage return or a space.
+    Blank,
+    /// `A` to `Z`, `a` to `z`.
+    Letter,
+    /// `0` to `9`.
+    Digit,
+    /// `-`, `.` and `_`.
+    Mark,
+    /// A byte that begins a sign or a title.
+    Sign,
+}
+
+/// The class of every byte.
+const CLASSES: [Class; 256] = [
+    Other, Other, Other, Other, Other, Other, Other, Other, Other, Blank, // tab
+    Blank, // line feed
+    Other, Other, Blank, // carriage return
+    Other, Other, Other, Other, Other, Other, Other, Other, Other, Other, Other, Other, Other,
+    Other, Other, Other, Other, Other, Blank, // space
+    Other, Sign, // "
+    Other, Other, Other, Sign, // &
+    Other, Sign, // (
+    Sign, // )
+    Sign, // *
+    Sign, // +
+    Other, Mark, // -
+    Mark, // .
+    Other, Digit, // 0
+    Digit, // 1
+    Digit, // 2
+    Digit, // 3
+    Digit, // 4
+    Digit, // 5
+    Digit, // 6
+    Digit, // 7
+    Digit, // 8
+    Digit, // 9
+    Other, Sign, // ;
+    Other, Sign, // =
+    Other, Sign, // ?
+    Other, Letter, // A
+    Letter, // B
+    Letter, // C
+    Letter, // D
+    Letter, // E
+    Letter, // F
+    Letter, // G
+    Letter, // H
+    Letter, // I
+    Letter, // J
+    Letter, // K
+    Letter, // L
+    Letter, // M
+    Letter, // N
+    Letter, // O
+    Letter, // P
+    Letter, // Q
+    Letter, // R
+    Letter, // S
+    Letter, // T
+    Letter, // U
+    Letter, // V
+    Letter, // W
+    Letter, // X
+    Letter, // Y
+    Letter, // Z
+    Sign, // [
+    Sign, // \
+    Sign, // ]
+    Sign, // ^
+    Mark, // _
+    Other, Letter, // a
+    Letter, // b
+    Letter, // c
+    Letter, // d
+    Letter, // e
+    Letter, // f
+    Letter, // g
+    Letter, // h
+    Letter, // i
+    Letter, // j
+    Letter, // k
+    Letter, // l
+    Letter, // m
+    Letter, // n
+    Letter, // o
+    Letter, // p
+    Letter, // q
+    Letter, // r
+    Letter, // s
+    Letter, // t
+    Letter, // u
+    Letter, // v
+    Letter, // w
+    Letter, // x
+    Letter, // y
+    Letter, // z
+    Sign, // {
+    Sign, // |
+    Sign, // }
+    Sign, // ~
+    Other, Other, Other, Other, Other, Other, Other, Other, Other, Other, Other, Other, Other,
+    Other, Other, Other, Other, Other, Other, Other, Other, Other, Other, Other, Other, Other,
+    Other, Other, Other, Other, Other, Other, Other, Other, Other, Other, Other, Other, Other,
+    Other, Other, Other, Other, Other, Other, Other, Other, Other, Other, Other, Other, Other,
+    Other, Other, Other, Other, Other, Other, Other, Other, Other, Other, Other, Other, Other,
+    Other, Other, Other, Other, Other, Other, Other, Other, Other, Other, Other, Other, Other,
+    Other, Other, Other, Other, Other, Other, Other, Other, Other, Other, Other, Other, Other,
+    Other, Other, Other, Other, Other, Other, Other, Other, Other, Other, Other, Other, Other,
+    Other, Other, Other, Other, Other, Other, Other, Other, Other, Other, Other, Other, Other,
+    Other, Other, Other, Other, Other, Other, Other, Other, Other, Other, Other, Other,
 ];
 
 /// The class of a byte.
-pub fn class_of(byte: u8) -> u8
-    ensures value { result ≡ class byte }
-    ensures rule { Classified byte result }
+pub fn class_of(byte: u8) -> Class
+    ensures value { class_number result ≡ class byte }
+    ensures rule { Classified byte (class_number result) }
 {
     CLASSES[byte as usize]
 }

@@ -2,11 +2,11 @@
 ghost use Rattle.std.specs.Prelude.{◌≤◌, map, length, Ok, Err, MatchResult};
 ghost use Rattle.token.specs.Items.{Computed};
 ghost use Rattle.token.specs.Lexing.{StuckInWords};
-ghost use Rattle.token.specs.Lexings.{Lexable, Told, OneLexing};
-ghost use Rattle.token.specs.Views.{lexeme_view};
+ghost use Rattle.token.specs.Lexings.{Told, OneLexing};
+ghost use Rattle.token.specs.Views.{lexeme_view, Keeps};
 
 use super::fault::ReadFault;
-use super::piece::{Piece, piece_of, rest};
+use super::piece::{Piece, piece_of};
 use super::token::Lexeme;
 use std::alloc::Global;
 
@@ -16,55 +16,40 @@ const BYTES: usize = 8192;
 /// How many tokens a text may have.
 const TOKENS: usize = 1024;
 
-/// Refuses a text that is too long.
-fn short(text: &[u8]) -> Result<(), ReadFault>
-    ensures { MatchResult result (λ _. length text.now ≤ 8192) (λ f. Told text.now (Err f)) }
+/// The tokens with that of a piece, if it has one; or why it, or one before it, could not be kept.
+fn keep<'a>(
+    found: Result<Vec<Lexeme<'a>>, ReadFault>,
+    piece: Piece<'a>,
+    place: usize,
+) -> Result<Vec<Lexeme<'a>>, ReadFault>
+    ensures { Keeps found.entry piece.entry.token place result }
 {
-    if text.len() > BYTES {
-        return Err(ReadFault::TooLong);
+    let mut found = found?;
+    let Some(token) = piece.token else {
+        return Ok(found);
+    };
+    if found.len() == TOKENS {
+        return Err(ReadFault::TooManyTokens { place });
     }
-    Ok(())
+    found.push(Lexeme { token, place })?;
+    Ok(found)
 }
 
-/// Refuses the first byte that begins no token, or a comment or title that has no end.
-fn whole(text: &[u8]) -> Result<(), ReadFault>
+/// The tokens of a text that is short enough. That one cannot be kept is told only if no byte is stray.
+fn gather<'a>(heap: Global, text: &'a [u8]) -> Result<Vec<Lexeme<'a>>, ReadFault>
     requires { length text.now ≤ 8192 }
-    ensures { MatchResult result (λ _. Lexable text.now) (λ f. Told text.now (Err f)) }
-{
-    let mut at = 0;
-    while at < text.len() {
-        match piece_of(rest(text, at)) {
-            Piece::Gap(length) => at += length,
-            Piece::Word(_, length) => at += length,
-            Piece::Wrong => return Err(ReadFault::Stray { place: at }),
-        }
-    }
-    Ok(())
-}
-
-/// The tokens of a text that has no stray byte, up to 1,024.
-fn collect<'a>(heap: Global, text: &'a [u8]) -> Result<Vec<Lexeme<'a>>, ReadFault>
-    requires whole { Lexable text.now }
-    requires short { length text.now ≤ 8192 }
     ensures { MatchResult result (λ v. Told text.now (Ok (map lexeme_view v.items))) (λ f. Told text.now (Err f)) }
 {
-    let mut found = Vec::new(heap);
-    let mut at = 0;
-    while at < text.len() {
-        let place = at;
-        match piece_of(rest(text, place)) {
-            Piece::Gap(length) => at += length,
-            Piece::Word(token, length) => {
-                if found.len() == TOKENS {
-                    return Err(ReadFault::TooManyTokens { place });
-                }
-                found.push(Lexeme { token, place })?;
-                at += length;
-            }
-            Piece::Wrong => return Err(ReadFault::Stray { place }),
-        }
+    let mut found = Ok(Vec::new(heap));
+    let mut place = 0;
+    while place < text.len() {
+        let Some(piece) = piece_of(&text[place..]) else {
+            return Err(ReadFault::Stray { place });
+        };
+        found = keep(found, piece, place);
+        place += piece.length;
     }
-    Ok(found)
+    found
 }
 
 /// The tokens of a text, each at its place. Refused with the first listed fault at its lowest place: over 8,192 bytes;
@@ -75,7 +60,8 @@ pub fn lex<'a>(heap: Global, text: &'a [u8]) -> Result<Vec<Lexeme<'a>>, ReadFaul
     ensures words { StuckInWords }
     ensures computed { Computed text.now }
 {
-    short(text)?;
-    whole(text)?;
-    collect(heap, text)
+    if text.len() > BYTES {
+        return Err(ReadFault::TooLong);
+    }
+    gather(heap, text)
 }

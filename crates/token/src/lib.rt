@@ -7,7 +7,7 @@ pub mod lexer;
 pub mod piece;
 pub mod token;
 
-pub use class::class_of;
+pub use class::{Class, class_of};
 pub use fault::ReadFault;
 pub use lexer::lex;
 pub use token::{Lexeme, Token};

@@ -1,200 +1,164 @@
 //! Pieces: what stands at the beginning of the rest of a text.
-ghost use Rattle.std.specs.Prelude.{◌≡◌, ◌≤◌, ◌&&◌, length, take, drop, if◌then◌else◌, Some, ◌==◌, slice_index};
-ghost use Rattle.std.specs.Str.{bytes_eq};
+ghost use Rattle.std.specs.Prelude.{◌≡◌, ◌&&◌, not, take, position, Some, ◌==◌, slice_index};
 ghost use Rattle.token.specs.Items.{goes_on, run, quote_from, end_from, word_of, titled, commented, when, single, opened, signed, item_of};
 ghost use Rattle.token.specs.Lexing.{token};
 ghost use Rattle.token.specs.Tokens.{no_events, inverse};
-ghost use Rattle.token.specs.Views.{view, word, wrong, piece_view, parted};
+ghost use Rattle.token.specs.Views.{view, gap, word, token_view, piece_view, parted};
 
-use super::class::class_of;
+use super::class::{Class, class_of};
 use super::token::Token;
 
-/// What stands at the beginning of the rest of a text.
-#[derive(Clone, Copy)]
-pub enum Piece<'a> {
-    /// A blank or a comment, with its length.
-    Gap(usize),
-    /// A token, with its length.
-    Word(Token<'a>, usize),
-    /// Neither.
-    Wrong,
+/// A stretch at the beginning of a text: its token, or none for a blank or a comment, and how many bytes it has.
+#[derive(Clone, Copy, PartialEq, Eq, Debug)]
+pub struct Piece<'a> {
+    pub token: Option<Token<'a>>,
+    pub length: usize,
 }
 
-/// The text behind a place.
-pub(crate) fn rest(text: &[u8], at: usize) -> &[u8]
-    requires { at ≤ length text.now }
-    ensures { result.now ≡ drop at text.now }
+/// A blank or a comment.
+fn gap<'a>(length: usize) -> Piece<'a>
+    ensures { piece_view (Some result) ≡ gap length }
 {
-    &text[at..]
+    Piece {
+        token: None,
+        length,
+    }
 }
 
-/// The text before a place.
-fn front(text: &[u8], at: usize) -> &[u8]
-    requires { at ≤ length text.now }
-    ensures { result.now ≡ take at text.now }
+/// A token.
+fn word<'a>(token: Token<'a>, length: usize) -> Piece<'a>
+    ensures { piece_view (Some result) ≡ word (view token.entry) length }
 {
-    &text[..at]
-}
-
-/// The byte at a place, or 0 past the end.
-fn byte_at(text: &[u8], at: usize) -> u8
-    ensures { result ≡ slice_index text.now at }
-{
-    if at < text.len() { text[at] } else { 0 }
+    Piece {
+        token: Some(token),
+        length,
+    }
 }
 
 /// Whether a name can go on with the byte.
 fn goes_on(byte: u8) -> bool
     ensures { result ≡ goes_on byte }
 {
-    let class = class_of(byte);
-    (class >= 2) & (class <= 4)
+    matches!(class_of(byte), Class::Letter | Class::Digit | Class::Mark)
 }
 
-/// How many bytes of the classes letter, digit and mark begin the text.
-fn run(text: &[u8]) -> usize
-    ensures { result ≡ run 0 text.now }
+/// The place of the first byte with which a name cannot go on.
+fn name_end(text: &[u8]) -> Option<usize>
+    ensures { result ≡ position (λ b. not (goes_on b)) text.now }
 {
-    for (at, byte) in text.iter().enumerate() {
-        if !goes_on(*byte) {
-            return at;
-        }
-    }
-    text.len()
+    text.iter().position(|byte| !goes_on(*byte))
 }
 
 /// The place of the first quote.
 fn quote(text: &[u8]) -> Option<usize>
-    ensures { result ≡ quote_from 0 text.now }
+    ensures { result ≡ position (λ b. b == 34) text.now }
 {
-    for (at, byte) in text.iter().enumerate() {
-        if *byte == b'"' {
-            return Some(at);
-        }
-    }
-    None
+    text.iter().position(|byte| *byte == b'"')
 }
 
 /// The place of the first `*)`.
 fn comment_end(text: &[u8]) -> Option<usize>
     ensures { result ≡ end_from 0 text.now }
 {
-    for (at, byte) in text.iter().enumerate() {
-        if (*byte == b'*') & (byte_at(text, at + 1) == b')') {
-            return Some(at);
-        }
-    }
-    None
-}
-
-/// Whether two stretches of bytes are the same.
-fn is(bytes: &[u8], word: &[u8]) -> bool
-    ensures { result ≡ bytes_eq bytes.now word.now }
-{
-    bytes == word
+    text.windows(2).position(|pair| pair == b"*)".as_slice())
 }
 
 /// The reserved word that is so written, or the name.
 fn word_of<'a>(bytes: &'a [u8]) -> Token<'a>
     ensures { view result ≡ word_of bytes.now }
 {
-    if is(bytes, b"let") {
+    if bytes == b"let".as_slice() {
         Token::Let
-    } else if is(bytes, b"rec") {
+    } else if bytes == b"rec".as_slice() {
         Token::Rec
-    } else if is(bytes, b"and") {
+    } else if bytes == b"and".as_slice() {
         Token::And
-    } else if is(bytes, b"acyclic") {
+    } else if bytes == b"acyclic".as_slice() {
         Token::Acyclic
-    } else if is(bytes, b"irreflexive") {
+    } else if bytes == b"irreflexive".as_slice() {
         Token::Irreflexive
-    } else if is(bytes, b"empty") {
+    } else if bytes == b"empty".as_slice() {
         Token::Empty
-    } else if is(bytes, b"flag") {
+    } else if bytes == b"flag".as_slice() {
         Token::Flag
-    } else if is(bytes, b"as") {
+    } else if bytes == b"as".as_slice() {
         Token::As
     } else {
         Token::Name(bytes)
     }
 }
 
+/// A word: a name or a reserved word.
+fn word_piece<'a>(text: &'a [u8]) -> Piece<'a>
+    ensures { piece_view (Some result) ≡ parted (Some (token (word_of (take (run 0 text.now) text.now)))) }
+{
+    let length = name_end(text).unwrap_or(text.len());
+    word(word_of(&text[..length]), length)
+}
+
 /// The title that ends at the first quote behind the opening one.
-fn title_piece<'a>(behind: &'a [u8]) -> Piece<'a>
+fn title_piece<'a>(behind: &'a [u8]) -> Option<Piece<'a>>
     ensures { piece_view result ≡ parted (titled (quote_from 0 behind.now) behind.now) }
 {
-    match quote(behind) {
-        Some(at) => Piece::Word(Token::Title(front(behind, at)), at + 2),
-        None => Piece::Wrong,
-    }
+    let end = quote(behind)?;
+    Some(word(Token::Title(&behind[..end]), end + 2))
 }
 
 /// The comment that ends at the first `*)` behind its `(*`.
-fn comment_piece<'a>(behind: &'a [u8]) -> Piece<'a>
+fn comment_piece<'a>(behind: &'a [u8]) -> Option<Piece<'a>>
     ensures { piece_view result ≡ parted (commented (end_from 0 behind.now) behind.now) }
 {
-    match comment_end(behind) {
-        Some(at) => Piece::Gap(at + 4),
-        None => Piece::Wrong,
-    }
+    let end = comment_end(behind)?;
+    Some(gap(end + 4))
 }
 
 /// What begins at a `(`: a comment or the token.
-fn open_piece<'a>(behind: &'a [u8]) -> Piece<'a>
+fn open_piece<'a>(behind: &'a [u8]) -> Option<Piece<'a>>
     ensures { piece_view result ≡ parted (opened behind.now) }
 {
-    if byte_at(behind, 0) == b'*' {
-        comment_piece(rest(behind, 1))
-    } else {
-        Piece::Word(Token::Open, 1)
-    }
-}
-
-/// A single sign.
-fn single<'a>(byte: u8) -> Piece<'a>
-    ensures { piece_view result ≡ parted (single byte) }
-{
-    match byte as char {
-        ')' => Piece::Word(Token::Close, 1),
-        '[' => Piece::Word(Token::OpenSquare, 1),
-        ']' => Piece::Word(Token::CloseSquare, 1),
-        '|' => Piece::Word(Token::Bar, 1),
-        ';' => Piece::Word(Token::Semicolon, 1),
-        '\\' => Piece::Word(Token::Backslash, 1),
-        '&' => Piece::Word(Token::Ampersand, 1),
-        '*' => Piece::Word(Token::Star, 1),
-        '~' => Piece::Word(Token::Tilde, 1),
-        '+' => Piece::Word(Token::Plus, 1),
-        '?' => Piece::Word(Token::Question, 1),
-        '=' => Piece::Word(Token::Equals, 1),
-        _ => Piece::Wrong,
+    match behind.strip_prefix(b"*") {
+        Some(inside) => comment_piece(inside),
+        None => Some(word(Token::Open, 1)),
     }
 }
 
 /// The token that a `{` begins.
-fn brace_piece<'a>(behind: &'a [u8]) -> Piece<'a>
+fn brace_piece<'a>(behind: &'a [u8]) -> Option<Piece<'a>>
     ensures { piece_view result ≡ parted (when (slice_index behind.now 0 == 125) no_events) }
 {
-    if byte_at(behind, 0) == b'}' {
-        Piece::Word(Token::NoEvents, 2)
-    } else {
-        Piece::Wrong
-    }
+    behind.starts_with(b"}").then_some(word(Token::NoEvents, 2))
 }
 
 /// The token that a `^` begins.
-fn caret_piece<'a>(behind: &'a [u8]) -> Piece<'a>
+fn caret_piece<'a>(behind: &'a [u8]) -> Option<Piece<'a>>
     ensures { piece_view result ≡ parted (when (slice_index behind.now 0 == 45 && slice_index behind.now 1 == 49) inverse) }
 {
-    if (byte_at(behind, 0) == b'-') & (byte_at(behind, 1) == b'1') {
-        Piece::Word(Token::Inverse, 3)
-    } else {
-        Piece::Wrong
+    behind.starts_with(b"-1").then_some(word(Token::Inverse, 3))
+}
+
+/// The token of a single sign.
+fn single<'a>(byte: u8) -> Option<Token<'a>>
+    ensures { token_view result 1 ≡ parted (single byte) }
+{
+    match byte as char {
+        ')' => Some(Token::Close),
+        '[' => Some(Token::OpenSquare),
+        ']' => Some(Token::CloseSquare),
+        '|' => Some(Token::Bar),
+        ';' => Some(Token::Semicolon),
+        '\\' => Some(Token::Backslash),
+        '&' => Some(Token::Ampersand),
+        '*' => Some(Token::Star),
+        '~' => Some(Token::Tilde),
+        '+' => Some(Token::Plus),
+        '?' => Some(Token::Question),
+        '=' => Some(Token::Equals),
+        _ => None,
     }
 }
 
 /// What begins with a sign.
-fn sign_piece<'a>(byte: u8, behind: &'a [u8]) -> Piece<'a>
+fn sign_piece<'a>(byte: u8, behind: &'a [u8]) -> Option<Piece<'a>>
     ensures { piece_view result ≡ parted (signed byte behind.now) }
 {
     match byte as char {
@@ -202,43 +166,21 @@ fn sign_piece<'a>(byte: u8, behind: &'a [u8]) -> Piece<'a>
         '(' => open_piece(behind),
         '{' => brace_piece(behind),
         '^' => caret_piece(behind),
-        _ => single(byte),
+        _ => Some(word(single(byte)?, 1)),
     }
 }
 
-/// A word: a name or a reserved word.
-fn word_piece<'a>(text: &'a [u8]) -> Piece<'a>
-    ensures { piece_view result ≡ parted (Some (token (word_of (take (run 0 text.now) text.now)))) }
-{
-    let length = run(text);
-    Piece::Word(word_of(front(text, length)), length)
-}
-
-/// The token that is written with this byte alone, if that is the byte.
-fn lone<'a>(sole: Token<'a>, found: bool) -> Piece<'a>
-    ensures { piece_view result ≡ (if found then word (view sole.entry) 1 else wrong) }
-{
-    if found {
-        Piece::Word(sole, 1)
-    } else {
-        Piece::Wrong
-    }
-}
-
-/// What stands at the beginning of the rest of a text.
-pub(crate) fn piece_of<'a>(text: &'a [u8]) -> Piece<'a>
+/// What stands at the beginning of the rest of a text, if a piece does.
+pub(crate) fn piece_of<'a>(text: &'a [u8]) -> Option<Piece<'a>>
     ensures { piece_view result ≡ parted (item_of text.now) }
 {
-    if text.is_empty() {
-        return Piece::Wrong;
-    }
-    let byte = text[0];
+    let (&byte, behind) = text.split_first()?;
     match class_of(byte) {
-        1 => Piece::Gap(1),
-        2 => word_piece(text),
-        3 => lone(Token::NoPairs, byte == b'0'),
-        4 => lone(Token::Universe, byte == b'_'),
-        5 => sign_piece(byte, rest(text, 1)),
-        _ => Piece::Wrong,
+        Class::Other => None,
+        Class::Blank => Some(gap(1)),
+        Class::Letter => Some(word_piece(text)),
+        Class::Digit => (byte == b'0').then_some(word(Token::NoPairs, 1)),
+        Class::Mark => (byte == b'_').then_some(word(Token::Universe, 1)),
+        Class::Sign => sign_piece(byte, behind),
     }
 }

@@ -1,7 +1,7 @@
 //! Tokens. Names and titles borrow the text.
 
 /// A token of a model text.
-#[derive(Clone, Copy)]
+#[derive(Clone, Copy, PartialEq, Eq, Debug)]
 pub enum Token<'a> {
     /// A name that is no reserved word.
     Name(&'a [u8]),
@@ -39,7 +39,7 @@ pub enum Token<'a> {
 }
 
 /// A token and its place, that of its first byte.
-#[derive(Clone, Copy)]
+#[derive(Clone, Copy, PartialEq, Eq, Debug)]
 pub struct Lexeme<'a> {
     pub token: Token<'a>,
     pub place: usize,

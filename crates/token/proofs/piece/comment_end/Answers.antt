@@ -1,14 +1,11 @@
-use Rattle.std.proofs.Common.{sym, ◌∙◌}
-use Rattle.token.proofs.Scans.{end_more, end_here, end_ends}
+use Rattle.std.proofs.Common.{rules}
+use Rattle.std.specs.Slice.Iter.{windows_rest, windows_size}
+use Rattle.token.proofs.Scans.{windows_run, pairs_tested, end_is}
 use Rattle.token.proofs.piece.comment_end.Goals as goal
 
-pub returns-then-byte-byte_at : goal.returns-then-byte-byte_at
-returns-then-byte-byte_at c =
-    sym (end_here c.args.text.now c.loop-at.at c.byte_at.result c.loop-at-test.true c.byte_at.ensures c.if-byte-byte_at.true) ∙ c.loop-at.invariant
-
-pub loop-at-preserved : goal.loop-at-preserved
-loop-at-preserved c =
-    sym (end_more c.args.text.now c.loop-at.at c.byte_at.result c.loop-at-test.true c.byte_at.ensures c.if-byte-byte_at.false) ∙ c.loop-at.invariant
-
 pub returns : goal.returns
-returns c = sym (end_ends c.args.text.now c.loop-at.at c.loop-at-test.false) ∙ c.loop-at.invariant
+returns c =
+    let r = c.position.ensures.runs in
+    end_is c.args.text.now c.position.result r.0
+    (windows_run windows_size windows_rest c.args.text.now c.windows.result r.0 r.1 c.windows.ensures.size c.windows.ensures.rest (c.windows.ensures.runs r.0 r.0.seen))
+    (pairs_tested c.position.result r.0 r.2 (λ a b q k. search rules) (λ x b k. search rules))

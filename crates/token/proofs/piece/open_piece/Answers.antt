@@ -1,13 +1,12 @@
-use Rattle.std.proofs.Common.{sym, ◌∙◌, arith}
-use Rattle.token.proofs.Parts.{open_comment, open_part, some_byte}
+use Rattle.std.proofs.Common.{[], ◌∷◌, Some, None, ◌∙◌}
+use Rattle.std.proofs.lemmas.Bool.Decides.{Decides-eqb}
+use Rattle.std.proofs.lemmas.Slice.Eq.{strip_prefix_is}
+use Rattle.token.proofs.Parts.{open_comment, open_part}
 use Rattle.token.proofs.piece.open_piece.Goals as goal
 
-pub rest-requires : goal.rest-requires
-rest-requires c = omega (arith, some_byte c.args.behind.now (sym c.byte_at.ensures ∙ c.if-byte_at-eq42.true))
+pub returns-in-Some : goal.returns-in-Some
+returns-in-Some c =
+    c.comment_piece.ensures ∙ open_comment c.args.behind.now c.in-Some.inside.now (strip_prefix_is Decides-eqb c.args.behind.now (42 ∷ []) (Some c.in-Some.inside) c.in-Some.ensures.cases)
 
-pub returns-then-byte_at-eq42 : goal.returns-then-byte_at-eq42
-returns-then-byte_at-eq42 c =
-    open_comment c.args.behind.now c.rest.result.now (sym c.byte_at.ensures ∙ c.if-byte_at-eq42.true) c.rest.ensures _ c.comment_piece.ensures
-
-pub returns-else-byte_at-eq42 : goal.returns-else-byte_at-eq42
-returns-else-byte_at-eq42 c = open_part c.args.behind.now (λ e. c.if-byte_at-eq42.false (c.byte_at.ensures ∙ e))
+pub returns-in-None : goal.returns-in-None
+returns-in-None c = c.word.ensures ∙ open_part c.args.behind.now (strip_prefix_is Decides-eqb c.args.behind.now (42 ∷ []) None c.in-None.ensures.cases)

@@ -1,9 +1,9 @@
-use Rattle.std.proofs.Common.{arith}
-use Rattle.token.proofs.Parts.{run_within, word_part}
+use Rattle.std.proofs.Common.{length, unwrap_or, refl, ap, ◌∙◌}
+use Rattle.token.proofs.Scans.{run_is}
+use Rattle.token.proofs.Parts.{word_part}
 use Rattle.token.proofs.piece.word_piece.Goals as goal
 
-pub front-requires : goal.front-requires
-front-requires c = omega (arith, run_within c.args.text.now, c.run-length.ensures)
-
 pub returns : goal.returns
-returns c = word_part c.args.text.now c.front.result.now c.run-length.result _ c.run-length.ensures c.front.ensures c.word_of.ensures
+returns c =
+    c.word.ensures
+    ∙ word_part c.args.text.now _ c.unwrap_or-length.result _ (c.unwrap_or-length.ensures ∙ ap (λ o. unwrap_or o (length c.args.text.now)) c.name_end.ensures ∙ run_is c.args.text.now) refl c.word_of.ensures

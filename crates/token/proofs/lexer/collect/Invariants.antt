@@ -1,9 +1,0 @@
-use Rattle.std.proofs.Common.{◌-◌, length, vec_items}
-use Rattle.token.proofs.Walks.{Gathered}
-use Rattle.token.proofs.lexer.collect.Given as goal
-
-abbrev pub invariant-loop-at : goal.invariant-loop-at
-invariant-loop-at l = Gathered l.text l.at (vec_items l.found)
-
-abbrev pub decreases-loop-at : goal.decreases-loop-at
-decreases-loop-at l = length l.text - l.at
