@@ -1,14 +1,11 @@
 //! Reading expressions: the ladder of infix signs, prefix, postfix and atom call each other.
-ghost use Rattle.std.specs.Prelude.{◌<◌, length};
-ghost use Rattle.sentence.specs.Looks.{first_role, role_start};
-ghost use Rattle.sentence.specs.Roles.{opens};
 ghost use Rattle.sentence.specs.Seats.{SeatedAs};
 ghost use Rattle.sentence.specs.Parsing.{Parsed, Halted, Unprefixed, Opened};
 
 use super::fault::SentenceFault;
 use super::look::*;
 use super::placed::Placed;
-use super::role::Start;
+use super::role::*;
 use super::sign::Bracket;
 use super::sort::Sort;
 use super::tree::*;
@@ -30,7 +27,7 @@ pub(crate) fn ladder(
     let mut tree = first.item;
     let mut next = first.next;
     while let Some(sign) = infix_from(sorts, next, rung) {
-        let right = ladder(heap, sorts, next + 1, bound(sign))?;
+        let right = ladder(heap, sorts, next + 1, sign.bound())?;
         tree = joined(heap, sign, tree, right.item)?;
         next = right.next;
     }
@@ -44,7 +41,7 @@ fn prefixed(heap: Global, sorts: &[Sort], at: usize) -> Result<Placed<Expr>, Sen
     ensures halts { Halted sorts.now 7 result }
     ensures seated { SeatedAs at result }
 {
-    if complements_at(sorts, at) {
+    if stands_at(sorts, at, Role::Complements) {
         let piece = prefixed(heap, sorts, at + 1)?;
         let tree = complement(heap, piece.item)?;
         Ok(Placed {
@@ -81,15 +78,13 @@ fn atom(heap: Global, sorts: &[Sort], at: usize) -> Result<Placed<Expr>, Sentenc
     ensures led { Parsed sorts.now at 7 7 result }
     ensures seated { SeatedAs at result }
 {
-    let Some(start) = start_at(sorts, at) else {
-        return Err(SentenceFault::Place(at));
-    };
-    match start {
-        Start::Leaf(leaf) => Ok(Placed {
+    match start_at(sorts, at) {
+        Some(Start::Leaf(leaf)) => Ok(Placed {
             item: Expr::Atom(leaf, at),
             next: at + 1,
         }),
-        Start::Opens(bracket) => between(heap, sorts, at, bracket),
+        Some(Start::Opens(bracket)) => between(heap, sorts, at, bracket),
+        None => Err(SentenceFault::Place(at)),
     }
 }
 
@@ -106,7 +101,7 @@ fn between(
     ensures seated { SeatedAs at result }
 {
     let piece = ladder(heap, sorts, at + 1, 1)?;
-    if closes_at(sorts, piece.next, bracket) {
+    if stands_at(sorts, piece.next, Role::Goes(Go::Closes(bracket))) {
         let tree = bracketed(heap, bracket, piece.item)?;
         Ok(Placed {
             item: tree,

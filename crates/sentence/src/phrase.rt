@@ -7,8 +7,8 @@ use super::fault::SentenceFault;
 use super::look::*;
 use super::parse::ladder;
 use super::placed::Placed;
-use super::role::Speech;
-use super::sign::Word;
+use super::role::*;
+use super::sign::*;
 use super::sort::Sort;
 use super::statement::*;
 use std::alloc::Global;
@@ -17,10 +17,10 @@ use std::alloc::Global;
 fn binding(heap: Global, sorts: &[Sort], at: usize) -> Result<Placed<Binding>, SentenceFault>
     ensures { Binds sorts.now at result }
 {
-    if !name_at(sorts, at) {
+    if !stands_at(sorts, at, Role::Starts(Start::Leaf(Leaf::Name))) {
         return Err(SentenceFault::Place(at));
     }
-    if !equals_at(sorts, at + 1) {
+    if !stands_at(sorts, at + 1, Role::Speaks(Speech::Equals)) {
         return Err(SentenceFault::Place(at + 1));
     }
     let piece = ladder(heap, sorts, at + 2, 1)?;
@@ -40,7 +40,7 @@ fn group(heap: Global, sorts: &[Sort], at: usize) -> Result<Placed<Statement>, S
     let head = binding(heap, sorts, at)?;
     let mut more: Vec<Binding> = Vec::new(heap);
     let mut next = head.next;
-    while and_at(sorts, next) {
+    while stands_at(sorts, next, Role::Speaks(Speech::Ands)) {
         let bound = binding(heap, sorts, next + 1)?;
         more.push(bound.item)?;
         next = bound.next;
@@ -55,7 +55,7 @@ fn group(heap: Global, sorts: &[Sort], at: usize) -> Result<Placed<Statement>, S
 fn binds(heap: Global, sorts: &[Sort], at: usize) -> Result<Placed<Statement>, SentenceFault>
     ensures { Stated (λ p. let_seen p) sorts.now at result }
 {
-    if rec_at(sorts, at) {
+    if stands_at(sorts, at, Role::Speaks(Speech::Recs)) {
         return group(heap, sorts, at + 1);
     }
     let bound = binding(heap, sorts, at)?;
@@ -88,8 +88,8 @@ fn claim(
     ensures { Stated (λ p. operand p (of_check flag negated word) [] nothing) sorts.now at result }
 {
     let piece = ladder(heap, sorts, at, 1)?;
-    if label_at(sorts, piece.next) {
-        if name_at(sorts, piece.next + 1) {
+    if stands_at(sorts, piece.next, Role::Speaks(Speech::Labels)) {
+        if stands_at(sorts, piece.next + 1, Role::Starts(Start::Leaf(Leaf::Name))) {
             let mark = labelled(flag, piece.next + 1);
             return Ok(Placed {
                 item: Statement::Check(Check {
@@ -136,7 +136,7 @@ fn denial(
 fn warning(heap: Global, sorts: &[Sort], at: usize) -> Result<Placed<Statement>, SentenceFault>
     ensures { Stated (λ p. flag_seen p) sorts.now at result }
 {
-    if complements_at(sorts, at) {
+    if stands_at(sorts, at, Role::Complements) {
         return denial(heap, sorts, at + 1, true);
     }
     let Some(word) = word_at(sorts, at) else {
@@ -154,7 +154,7 @@ pub(crate) fn statement(
     requires { at < length sorts.now }
     ensures { Stated (λ p. ready p) sorts.now at result }
 {
-    if complements_at(sorts, at) {
+    if stands_at(sorts, at, Role::Complements) {
         return denial(heap, sorts, at + 1, false);
     }
     let Some(speech) = speech_at(sorts, at) else {
@@ -164,10 +164,6 @@ pub(crate) fn statement(
         Speech::Lets => binds(heap, sorts, at + 1),
         Speech::Flags => warning(heap, sorts, at + 1),
         Speech::Words(word) => claim(heap, sorts, at + 1, false, false, word),
-        Speech::Titles => Err(SentenceFault::Place(at)),
-        Speech::Recs => Err(SentenceFault::Place(at)),
-        Speech::Ands => Err(SentenceFault::Place(at)),
-        Speech::Labels => Err(SentenceFault::Place(at)),
-        Speech::Equals => Err(SentenceFault::Place(at)),
+        _ => Err(SentenceFault::Place(at)),
     }
 }

@@ -3,8 +3,9 @@ ghost use Rattle.std.specs.Prelude.{◌≡◌, if◌then◌else◌};
 ghost use Rattle.sentence.specs.Reading.{ReadAs};
 
 use super::fault::SentenceFault;
-use super::look::title_at;
+use super::look::stands_at;
 use super::phrase::statement;
+use super::role::{Role, Speech};
 use super::sort::Sort;
 use super::statement::*;
 use std::alloc::Global;
@@ -21,7 +22,7 @@ fn behind_title(titled: bool) -> usize
 pub fn read(heap: Global, sorts: &[Sort]) -> Result<Sentence, SentenceFault>
     ensures { ReadAs sorts.now result }
 {
-    let titled = title_at(sorts, 0);
+    let titled = stands_at(sorts, 0, Role::Speaks(Speech::Titles));
     let mut at = behind_title(titled);
     let mut statements: Vec<Statement> = Vec::new(heap);
     while at < sorts.len() {

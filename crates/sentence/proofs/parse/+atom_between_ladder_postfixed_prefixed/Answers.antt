@@ -1,37 +1,38 @@
 use Rattle.std.proofs.Common.{◌+◌, ◌<◌, length, drop, Some, sym, ap, ◌∙◌, arith, rules}
 use Rattle.std.proofs.lemmas.Result.{err_from_is_err_and}
-use Rattle.sentence.specs.Roles.{opens}
-use Rattle.sentence.specs.Looks.{first_sign, sign_above}
+use Rattle.sentence.specs.Roles.{leaf, opens, starts, complements}
+use Rattle.sentence.specs.Looks.{first_role}
 use Rattle.sentence.specs.Exprs.{tree_of}
 use Rattle.sentence.specs.Seats.{seats_of}
 use Rattle.sentence.proofs.Seatings.{seated_leaf, seated_inside, seated_tilde, seated_ended, seated_joined, seated_fault}
-use Rattle.sentence.proofs.Looked.{start_here, complements_here, post_here}
-use Rattle.sentence.proofs.Climbs.{led_leaf, stuck_start, led_prefix, fault_prefix, led_between, fault_between, stuck_between, led_post, halts_post, climbing_first, climbing_more, sign_within, fault_right, climbing_done, handed_on, handed_halts, found}
+use Rattle.sentence.proofs.Looking.{not_so}
+use Rattle.sentence.proofs.Looked.{here, start_so, post_here}
+use Rattle.sentence.proofs.Climbs.{led_leaf, stuck_start, led_prefix, fault_prefix, led_between, fault_between, stuck_between, led_post, halts_post, climbing_first, climbing_more, sign_within, fault_right, climbing_done, handed_on, handed_halts}
 use Rattle.sentence.proofs.parse.+atom_between_ladder_postfixed_prefixed.Goals as goal
 
-pub atom-returns-in_default : goal.atom-returns-in_default
-atom-returns-in_default t c = record { led = stuck_start c.args.sorts.now c.args.at (sym c.start_at.ensures ∙ c.in_default.is) c.requires; seated = tt }
+pub atom-returns-in-None : goal.atom-returns-in-None
+atom-returns-in-None t c = record { led = stuck_start c.args.sorts.now c.args.at (sym c.start_at.ensures ∙ c.in-None.is) c.requires; seated = tt }
 
 pub atom-overflow_add-result : goal.atom-overflow_add-result
 atom-overflow_add-result t c =
-    let h : c.args.at < length c.args.sorts.now = start_here c.args.sorts.now c.args.at c.in-Some.start (sym c.start_at.ensures ∙ c.in-Some.is) in
+    let h : c.args.at < length c.args.sorts.now = here c.args.sorts.now c.args.at (starts (leaf c.in-Some-Leaf.leaf)) (start_so (first_role (drop c.args.at c.args.sorts.now)) (leaf c.in-Some-Leaf.leaf) (sym c.start_at.ensures ∙ c.in-Some-Leaf.is ∙ ap Some c.in-Some-Leaf.field-0-is)) in
     search rules
 
-pub atom-returns-in-Leaf : goal.atom-returns-in-Leaf
-atom-returns-in-Leaf t c =
+pub atom-returns-in-Some-Leaf : goal.atom-returns-in-Some-Leaf
+atom-returns-in-Some-Leaf t c =
     record {
-      led = led_leaf c.args.sorts.now c.args.at c.in-Leaf.leaf (sym c.start_at.ensures ∙ c.in-Some.is ∙ ap Some c.in-Leaf.is);
-      seated = seated_leaf c.args.at c.in-Leaf.leaf;
+      led = led_leaf c.args.sorts.now c.args.at c.in-Some-Leaf.leaf (start_so (first_role (drop c.args.at c.args.sorts.now)) (leaf c.in-Some-Leaf.leaf) (sym c.start_at.ensures ∙ c.in-Some-Leaf.is ∙ ap Some c.in-Some-Leaf.field-0-is));
+      seated = seated_leaf c.args.at c.in-Some-Leaf.leaf;
     }
 
 pub between-overflow_add-at : goal.between-overflow_add-at
 between-overflow_add-at t c =
-    let h : c.args.at < length c.args.sorts.now = start_here c.args.sorts.now c.args.at (opens c.args.bracket) c.requires in
+    let h : c.args.at < length c.args.sorts.now = here c.args.sorts.now c.args.at (starts (opens c.args.bracket)) c.requires in
     search rules
 
 pub between-ladder-requires : goal.between-ladder-requires
 between-ladder-requires t c =
-    let h : c.args.at < length c.args.sorts.now = start_here c.args.sorts.now c.args.at (opens c.args.bracket) c.requires in
+    let h : c.args.at < length c.args.sorts.now = here c.args.sorts.now c.args.at (starts (opens c.args.bracket)) c.requires in
     search rules
 
 pub between-returns-in_err-piece : goal.between-returns-in_err-piece
@@ -47,16 +48,16 @@ pub between-returns-in_ok-tree : goal.between-returns-in_ok-tree
 between-returns-in_ok-tree t c =
     record {
       led = led_between c.args.sorts.now c.args.at c.args.bracket 0 (tree_of c.in_ok-piece.piece.item) (tree_of c.in_ok-tree.tree) c.in_ok-piece.piece.next
-          c.requires c.in_ok-piece.ensures.led (sym c.closes_at.ensures ∙ c.if-closes_at.true) c.in_ok-tree.ensures.made;
+          c.requires c.in_ok-piece.ensures.led (c.stands_at.ensures.0 c.if-stands_at.true) c.in_ok-tree.ensures.made;
       seated = seated_inside c.args.at c.args.bracket (tree_of c.in_ok-piece.piece.item) (tree_of c.in_ok-tree.tree) (seats_of c.in_ok-piece.piece.item) (seats_of c.in_ok-tree.tree) c.in_ok-piece.piece.next
           c.in_ok-piece.ensures.seated c.in_ok-tree.ensures.made c.in_ok-tree.ensures.seats;
     }
 
-pub between-returns-else-closes_at : goal.between-returns-else-closes_at
-between-returns-else-closes_at t c =
+pub between-returns-else-stands_at : goal.between-returns-else-stands_at
+between-returns-else-stands_at t c =
     record {
       led = stuck_between c.args.sorts.now c.args.at c.args.bracket 0 (tree_of c.in_ok-piece.piece.item) c.in_ok-piece.piece.next
-          c.requires c.in_ok-piece.ensures.led c.in_ok-piece.ensures.halts (sym c.closes_at.ensures ∙ c.if-closes_at.false);
+          c.requires c.in_ok-piece.ensures.led c.in_ok-piece.ensures.halts (not_so _ c.stands_at.ensures c.if-stands_at.false);
       seated = tt;
     }
 
@@ -84,7 +85,7 @@ ladder-returns-in_err-right t c =
     record {
       led = handed_on c.args.sorts.now c.args.at c.args.rung 0 c.from_residual-in_err-right.result p.0 c.in_err-right.field-0.0 p.1 p.2
           (fault_right c.args.sorts.now c.args.at c.args.rung (tree_of c.loop-sign.tree) c.loop-sign.next c.in-Some.sign c.bound.result c.in_err-right.field-0.0
-          c.loop-sign.invariant.0 (found c.infix_from.result (sign_above c.args.rung (first_sign (drop c.loop-sign.next c.args.sorts.now))) (Some c.in-Some.sign) c.infix_from.ensures c.in-Some.is) c.bound.ensures c.in_err-right.ensures.led);
+          c.loop-sign.invariant.0 (sym c.infix_from.ensures ∙ c.in-Some.is) c.bound.ensures c.in_err-right.ensures.led);
       halts = handed_halts c.args.sorts.now c.args.rung c.from_residual-in_err-right.result p.0 p.1;
       seated = seated_fault c.args.at c.from_residual-in_err-right.result p.0 p.1;
     }
@@ -137,12 +138,12 @@ postfixed-returns t c = record { led = c.loop-sign.invariant.0; halts = halts_po
 
 pub prefixed-overflow_add-at : goal.prefixed-overflow_add-at
 prefixed-overflow_add-at t c =
-    let h : c.args.at < length c.args.sorts.now = complements_here c.args.sorts.now c.args.at (sym c.complements_at.ensures ∙ c.if-complements_at.true) in
+    let h : c.args.at < length c.args.sorts.now = here c.args.sorts.now c.args.at complements (c.stands_at.ensures.0 c.if-stands_at.true) in
     search rules
 
 pub prefixed-prefixed-requires : goal.prefixed-prefixed-requires
 prefixed-prefixed-requires t c =
-    let h : c.args.at < length c.args.sorts.now = complements_here c.args.sorts.now c.args.at (sym c.complements_at.ensures ∙ c.if-complements_at.true) in
+    let h : c.args.at < length c.args.sorts.now = here c.args.sorts.now c.args.at complements (c.stands_at.ensures.0 c.if-stands_at.true) in
     search rules
 
 pub prefixed-returns-in_err-piece : goal.prefixed-returns-in_err-piece
@@ -150,7 +151,7 @@ prefixed-returns-in_err-piece t c =
     let p = err_from_is_err_and c.from_residual.result c.from_residual.ensures.1 in
     record {
       led = handed_on c.args.sorts.now c.args.at 7 6 c.from_residual.result p.0 c.in_err-piece.field-0.0 p.1 p.2
-          (fault_prefix c.args.sorts.now c.args.at c.in_err-piece.field-0.0 (sym c.complements_at.ensures ∙ c.if-complements_at.true) c.in_err-piece.ensures.led);
+          (fault_prefix c.args.sorts.now c.args.at c.in_err-piece.field-0.0 (c.stands_at.ensures.0 c.if-stands_at.true) c.in_err-piece.ensures.led);
       halts = handed_halts c.args.sorts.now 7 c.from_residual.result p.0 p.1;
       seated = seated_fault c.args.at c.from_residual.result p.0 p.1;
     }
@@ -159,8 +160,11 @@ pub prefixed-returns-in_ok-tree : goal.prefixed-returns-in_ok-tree
 prefixed-returns-in_ok-tree t c =
     record {
       led = led_prefix c.args.sorts.now c.args.at (tree_of c.in_ok-piece.piece.item) (tree_of c.in_ok-tree.tree) c.in_ok-piece.piece.next
-          (sym c.complements_at.ensures ∙ c.if-complements_at.true) c.in_ok-piece.ensures.led c.in_ok-tree.ensures.made;
+          (c.stands_at.ensures.0 c.if-stands_at.true) c.in_ok-piece.ensures.led c.in_ok-tree.ensures.made;
       halts = c.in_ok-piece.ensures.halts;
       seated = seated_tilde c.args.at (tree_of c.in_ok-piece.piece.item) (tree_of c.in_ok-tree.tree) (seats_of c.in_ok-piece.piece.item) (seats_of c.in_ok-tree.tree) c.in_ok-piece.piece.next
           c.in_ok-piece.ensures.seated c.in_ok-tree.ensures.made c.in_ok-tree.ensures.seats;
     }
+
+pub prefixed-postfixed-requires : goal.prefixed-postfixed-requires
+prefixed-postfixed-requires t c = (search rules, not_so _ c.stands_at.ensures c.if-stands_at.false)

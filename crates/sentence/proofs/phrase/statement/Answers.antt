@@ -1,39 +1,38 @@
-use Rattle.std.proofs.Common.{false, [], sym, refl, ◌∙◌}
-use Rattle.sentence.specs.Machine.{titles, recs, ands, labels, equals, ready, let_seen, flag_seen, tilde_seen, operand, of_check, nothing}
-use Rattle.sentence.proofs.Phrases.{ready_denied, ready_lets, ready_flags, ready_words, ready_other, ready_none, step_stated}
+use Rattle.std.proofs.Common.{false, [], drop, Some, sym, refl, ap, ◌∙◌}
+use Rattle.sentence.specs.Looks.{first_role}
+use Rattle.sentence.specs.Machine.{lets, flags, words, complements, speaks, ready, let_seen, flag_seen, tilde_seen, operand, of_check, nothing, feed}
+use Rattle.sentence.proofs.Looking.{not_so}
+use Rattle.sentence.proofs.Looked.{speech_so}
+use Rattle.sentence.proofs.Phrases.{ready_other, ready_none, step_stated}
 use Rattle.sentence.proofs.phrase.statement.Goals as goal
 
-pub returns-then-complements_at : goal.returns-then-complements_at
-returns-then-complements_at c =
-    step_stated c.args.sorts.now (λ p. ready p) (λ p. tilde_seen p false) c.args.at (ready_denied c.args.sorts.now c.args.at (sym c.complements_at.ensures ∙ c.if-complements_at.true)) c.denial.result c.denial.ensures
+pub returns-then-stands_at : goal.returns-then-stands_at
+unfolding feed
+returns-then-stands_at c =
+    step_stated c.args.sorts.now (λ p. ready p) (λ p. tilde_seen p false) c.args.at complements (c.stands_at.ensures.0 c.if-stands_at.true) (λ p. refl) c.denial.result c.denial.ensures
 
 pub returns-in_default : goal.returns-in_default
-returns-in_default c = ready_none c.args.sorts.now c.args.at c.requires (sym c.complements_at.ensures ∙ c.if-complements_at.false) (sym c.speech_at.ensures ∙ c.in_default.is)
+returns-in_default c = ready_none c.args.sorts.now c.args.at c.requires (not_so _ c.stands_at.ensures c.if-stands_at.false) (sym c.speech_at.ensures ∙ c.in_default.is)
 
 pub returns-in-Lets : goal.returns-in-Lets
+unfolding feed
 returns-in-Lets c =
-    step_stated c.args.sorts.now (λ p. ready p) (λ p. let_seen p) c.args.at (ready_lets c.args.sorts.now c.args.at c.in-Some.speech (sym c.speech_at.ensures ∙ c.in-Some.is) c.in-Lets.is) c.binds.result c.binds.ensures
+    step_stated c.args.sorts.now (λ p. ready p) (λ p. let_seen p) c.args.at (speaks lets)
+    (speech_so (first_role (drop c.args.at c.args.sorts.now)) lets (sym c.speech_at.ensures ∙ c.in-Some.is ∙ ap Some c.in-Lets.is)) (λ p. refl) c.binds.result c.binds.ensures
 
 pub returns-in-Flags : goal.returns-in-Flags
+unfolding feed
 returns-in-Flags c =
-    step_stated c.args.sorts.now (λ p. ready p) (λ p. flag_seen p) c.args.at (ready_flags c.args.sorts.now c.args.at c.in-Some.speech (sym c.speech_at.ensures ∙ c.in-Some.is) c.in-Flags.is) c.warning.result c.warning.ensures
+    step_stated c.args.sorts.now (λ p. ready p) (λ p. flag_seen p) c.args.at (speaks flags)
+    (speech_so (first_role (drop c.args.at c.args.sorts.now)) flags (sym c.speech_at.ensures ∙ c.in-Some.is ∙ ap Some c.in-Flags.is)) (λ p. refl) c.warning.result c.warning.ensures
 
 pub returns-in-Words : goal.returns-in-Words
+unfolding feed
 returns-in-Words c =
-    step_stated c.args.sorts.now (λ p. ready p) (λ p. operand p (of_check false false c.in-Words.word) [] nothing) c.args.at
-    (ready_words c.args.sorts.now c.args.at c.in-Some.speech c.in-Words.word (sym c.speech_at.ensures ∙ c.in-Some.is) c.in-Words.is) c.claim.result c.claim.ensures
+    step_stated c.args.sorts.now (λ p. ready p) (λ p. operand p (of_check false false c.in-Words.word) [] nothing) c.args.at (speaks (words c.in-Words.word))
+    (speech_so (first_role (drop c.args.at c.args.sorts.now)) (words c.in-Words.word) (sym c.speech_at.ensures ∙ c.in-Some.is ∙ ap Some c.in-Words.is)) (λ p. refl) c.claim.result c.claim.ensures
 
-pub returns-in-Titles : goal.returns-in-Titles
-returns-in-Titles c = ready_other c.args.sorts.now c.args.at c.in-Some.speech titles (sym c.speech_at.ensures ∙ c.in-Some.is) c.in-Titles.is (λ p. refl)
-
-pub returns-in-Recs : goal.returns-in-Recs
-returns-in-Recs c = ready_other c.args.sorts.now c.args.at c.in-Some.speech recs (sym c.speech_at.ensures ∙ c.in-Some.is) c.in-Recs.is (λ p. refl)
-
-pub returns-in-Ands : goal.returns-in-Ands
-returns-in-Ands c = ready_other c.args.sorts.now c.args.at c.in-Some.speech ands (sym c.speech_at.ensures ∙ c.in-Some.is) c.in-Ands.is (λ p. refl)
-
-pub returns-in-Labels : goal.returns-in-Labels
-returns-in-Labels c = ready_other c.args.sorts.now c.args.at c.in-Some.speech labels (sym c.speech_at.ensures ∙ c.in-Some.is) c.in-Labels.is (λ p. refl)
-
-pub returns-in-Equals : goal.returns-in-Equals
-returns-in-Equals c = ready_other c.args.sorts.now c.args.at c.in-Some.speech equals (sym c.speech_at.ensures ∙ c.in-Some.is) c.in-Equals.is (λ p. refl)
+pub returns-in_default-speech : goal.returns-in_default-speech
+returns-in_default-speech c =
+    ready_other c.args.sorts.now c.args.at c.in-Some.speech (speech_so (first_role (drop c.args.at c.args.sorts.now)) c.in-Some.speech (sym c.speech_at.ensures ∙ c.in-Some.is))
+    c.in_default-speech.not-Lets c.in_default-speech.not-Flags c.in_default-speech.not-Words
