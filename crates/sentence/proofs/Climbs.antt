@@ -1,15 +1,13 @@
 -- How the parser's parts join, each against the machine. Assumes nothing.
-use Rattle.std.proofs.Common.{◌≡◌, ℕ, ◌+◌, ◌<◌, ◌≤◌, Bool, true, false, cond, leb, List, ◌∷◌, length, drop, Some, None, Err, Option, Result, sym, refl, ap, ◌∙◌, subst, arith}
+use Rattle.std.proofs.Common.{◌≡◌, ℕ, ◌+◌, ◌<◌, ◌≤◌, Bool, true, false, cond, leb, List, ◌∷◌, length, drop, Some, None, Option, sym, refl, ap, ◌∙◌, subst, arith}
 use Rattle.std.proofs.lemmas.Bool.{leb-true, leb-false}
 use Rattle.sentence.specs.declared.sort.Sort.{Sort}
 use Rattle.sentence.specs.declared.fault.SentenceFault.{SentenceFault}
 use Rattle.sentence.specs.declared.fault.SentenceFault.TheVariants.{Memory, Place}
-use Rattle.sentence.specs.declared.placed.Placed.{Placed}
-use Rattle.sentence.specs.declared.tree.Expr.{Expr}
 use Rattle.sentence.specs.Trees.{Leaf, Bracket, Post, Infix, bar, semicolon, backslash, ampersand, product, Tree, atom, inside, tilde, ended, joined, rank, level, bound, Sentence}
 use Rattle.sentence.specs.Looks.{first_role, StandsAt, role_start, sign_at, post_at, sign_above}
-use Rattle.sentence.specs.Machine.{leaf, opens, closes, starts, goes, complements, suffix, fill, asked, Wait, nothing, behind, tilded, Frame, Owner, operand, after, feed, outcome}
-use Rattle.sentence.specs.Parsing.{Led, StuckAt, Faulted, Parsed, Halts, Halted, Unprefixed, Opened}
+use Rattle.sentence.specs.Machine.{leaf, opens, closes, starts, goes, complements, fill, asked, Wait, nothing, behind, tilded, Frame, Owner, operand, after, feed, outcome}
+use Rattle.sentence.specs.Parsing.{Led, StuckAt, Faulted, Halts, Unprefixed, Opened}
 use Rattle.sentence.proofs.Inserts.{asked_most, rank_most, insert_fill, suffix_fill, suffix_tight}
 use Rattle.sentence.proofs.Looked.{here, sign_here, post_here, takes, starts_not, sign_on, post_on, shuts, closes_not}
 
@@ -203,10 +201,3 @@ climbing_done ts at n t next h e = record { loose = λ i f. below i (ap (sign_ab
         go : (b : Bool) → leb n (rank i) ≡ b → cond b (Some i) None ≡ None → rank i < n
         go true f e = let z : ◌≡◌ {A = ℕ} 0 1 = cc in absurd (omega arith)
         go false f e = leb-false n (rank i) f
-
--- a fault that is handed on
-pub handed_on : (ts : List Sort) (at n m : ℕ) (r : Result (Placed Expr) SentenceFault) (y f : SentenceFault) → r ≡ Err y → y ≡ f → Faulted ts at n f → Parsed ts at n m r
-handed_on ts at n m r y f e same h = subst (λ x. Parsed ts at n m x) (sym (e ∙ ap Err same)) h
-
-pub handed_halts : (ts : List Sort) (n : ℕ) (r : Result (Placed Expr) SentenceFault) (y : SentenceFault) → r ≡ Err y → Halted ts n r
-handed_halts ts n r y e = subst (λ x. Halted ts n x) (sym e) tt

@@ -3,9 +3,9 @@ use Rattle.std.proofs.Common.{◌≡◌, ℕ, suc, ◌+◌, ◌<◌, ◌≤◌, 
 use Rattle.std.proofs.lemmas.Bool.{cases_lt}
 use Rattle.std.specs.Prelude.{is_some}
 use Rattle.sentence.specs.declared.sort.Sort.{Sort}
-use Rattle.sentence.specs.Trees.{Word, Bracket, round, square, Post, closure, Infix, bar, semicolon, backslash, ampersand, product, Tree, atom, inside, Sentence}
+use Rattle.sentence.specs.Trees.{Word, Bracket, round, square, Post, closure, Infix, product, Tree, inside, Sentence}
 use Rattle.sentence.specs.Looks.{first_role, StandsAt, role_start, role_speech, role_word, role_sign, role_post, begins_atom, sign_at, post_at}
-use Rattle.sentence.specs.Machine.{Start, closes, joins, ends, Speech, words, Role, starts, goes, complements, speaks, role, suffix, fill, Wait, nothing, behind, tilded, Frame, Owner, State, operand, after, starred, shut, feed, accept, told_end, told_on, outcome}
+use Rattle.sentence.specs.Machine.{Start, closes, joins, ends, Speech, words, Role, starts, goes, complements, speaks, suffix, fill, Wait, behind, Frame, Owner, State, operand, after, starred, shut, feed, accept, told_end, told_on, outcome}
 use Rattle.sentence.proofs.Looking.{first_none, behind_first, behind_drop}
 
 -- what comes first stands within the sorts
@@ -68,6 +68,10 @@ pub takes : (c d : State) (ts : List Sort) (at : ℕ) (r : Role) → StandsAt ts
 takes c d ts at r e h =
     stepped c d ts at
     (looks c at (drop at ts) ∙ ap (look c at (drop at ts)) e ∙ ap (λ f. told_on f at (λ d. outcome d (suc at) (behind_first (drop at ts)))) h)
+
+-- the same, where it is said what the place behind is
+pub takes_to : (c d : State) (ts : List Sort) (at : ℕ) (r : Role) (k : ℕ) → StandsAt ts at r × (k ≡ at + 1) → feed c r ≡ Some d → outcome c at (drop at ts) ≡ outcome d k (drop k ts)
+takes_to c d ts at r k e h = takes c d ts at r e.0 h ∙ ap (λ n. outcome d n (drop n ts)) (sym e.1)
 
 -- what begins behind the first sort
 next_atom : (ts : List Sort) (at : ℕ) → begins_atom (behind_first (drop at ts)) ≡ begins_atom (drop (at + 1) ts)

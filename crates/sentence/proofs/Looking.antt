@@ -1,6 +1,7 @@
 -- The sort at a place is the first of what is left there. Assumes nothing.
-use Rattle.std.proofs.Common.{◌≡◌, ℕ, zero, suc, ◌≤◌, Bool, true, false, List, [], ◌∷◌, length, drop, None, sym, refl, ap, drop_of_length-le}
-use Rattle.std.specs.Prelude.{◌↔◌, IsTrue}
+use Rattle.std.proofs.Common.{◌≡◌, ℕ, zero, suc, ◌≤◌, Bool, true, false, List, [], ◌∷◌, length, drop, None, Ok, Err, Result, sym, refl, ap, subst, drop_of_length-le}
+use Rattle.std.specs.Prelude.{◌↔◌, IsTrue, IsErr, IsErrAnd}
+use Rattle.sentence.specs.declared.fault.SentenceFault.{SentenceFault}
 use Rattle.sentence.specs.declared.sort.Sort.{Sort}
 use Rattle.sentence.specs.Looks.{first_role}
 
@@ -21,3 +22,8 @@ behind_drop (suc n) (s ∷ ts) = behind_drop n ts
 -- a test that failed
 pub not_so : {P : Type 0} (b : Bool) → (IsTrue b ↔ P) → b ≡ false → P → ⊥
 not_so b e h p = let t : b ≡ true = e.1 p in cc
+
+-- a fault that `?` hands on
+pub handed : {T : Type 0} (P : Result T SentenceFault → Type 0) (r : Result T SentenceFault) (f : SentenceFault) → IsErr r × IsErrAnd r (λ y. y ≡ f) → P (Err f) → P r
+handed P (Ok x) f h g = absurd h.1
+handed P (Err y) f h g = subst (λ x. P (Err x)) (sym h.1) g

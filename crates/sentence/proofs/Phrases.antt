@@ -1,5 +1,5 @@
 -- How the parts of statements join, each against the machine. Assumes nothing.
-use Rattle.std.proofs.Common.{◌≡◌, ℕ, suc, ◌+◌, ◌<◌, ◌≤◌, Bool, true, false, List, [], ◌∷◌, ◌++◌, length, drop, Some, None, Ok, Err, Result, sym, refl, ap, ◌∙◌, subst, arith, drop-cons}
+use Rattle.std.proofs.Common.{◌≡◌, ℕ, ◌+◌, ◌<◌, ◌≤◌, Bool, true, false, List, [], ◌∷◌, ◌++◌, length, drop, Some, None, Ok, Err, Result, sym, refl, ap, ◌∙◌, subst, arith, drop-cons}
 use Rattle.sentence.specs.declared.sort.Sort.{Sort}
 use Rattle.sentence.specs.declared.sort.Sort.TheVariants.{Name}
 use Rattle.sentence.specs.declared.fault.SentenceFault.{SentenceFault}
@@ -8,12 +8,12 @@ use Rattle.sentence.specs.declared.statement.Binding as binding
 use Rattle.sentence.specs.declared.statement.Statement as statement
 use Rattle.sentence.specs.declared.placed.Placed.{Placed}
 use Rattle.sentence.specs.Trees.{name, Tree, Word, Mark, plain, binds, groups, checks, Sentence}
-use Rattle.sentence.specs.Looks.{first_role, StandsAt, role_word, role_speech}
-use Rattle.sentence.specs.Machine.{leaf, Speech, titles, lets, recs, ands, flags, labels, equals, words, Role, starts, complements, speaks, fill, nothing, Binding, single, first, more, Owner, of_binding, of_check, State, ready, let_seen, name_due, equals_due, flag_seen, tilde_seen, label_due, operand, after, also, onto, finish, grouped, labelling, marked, feed, accept, outcome}
+use Rattle.sentence.specs.Looks.{first_role, StandsAt, role_speech}
+use Rattle.sentence.specs.Machine.{leaf, Speech, lets, recs, ands, flags, labels, equals, words, Role, starts, complements, speaks, fill, nothing, Binding, single, first, more, Owner, of_binding, of_check, State, ready, let_seen, name_due, equals_due, label_due, operand, after, also, onto, finish, grouped, labelling, marked, feed, accept, outcome}
 use Rattle.sentence.specs.Parsing.{Led, Faulted, Halts}
-use Rattle.sentence.specs.Statements.{trees_of, statement_of, statements_of, GoesOn, GetsStuck, Stated, GoesBound, Unbound, Binds}
+use Rattle.sentence.specs.Statements.{trees_of, statement_of, statements_of, GoesOn, GetsStuck, Stated, GoesBound, Unbound, GoesMarked, Unmarked}
 use Rattle.sentence.specs.Exprs.{tree_of}
-use Rattle.sentence.proofs.Looked.{here, speech_so, word_so, takes}
+use Rattle.sentence.proofs.Looked.{here, takes, takes_to}
 use Rattle.sentence.proofs.Climbs.{no_sign}
 use Rattle.sentence.proofs.Heard
 
@@ -23,54 +23,44 @@ there ts at h e = let z = ap first_role (drop-cons ts at Name h) in cc
 
 module _ (ts : List Sort) where
   -- a binding's name, and its sign
-  named : (at : ℕ) → StandsAt ts at (starts (leaf name)) → (p : Sentence) (b : Binding) → outcome (name_due p b) at (drop at ts) ≡ outcome (equals_due p b) (at + 1) (drop (at + 1) ts)
+  named : (at j : ℕ) → StandsAt ts at (starts (leaf name)) × (j ≡ at + 1) → (p : Sentence) (b : Binding) → outcome (name_due p b) at (drop at ts) ≡ outcome (equals_due p b) j (drop j ts)
   unfolding feed
-  named at e p b = takes (name_due p b) (equals_due p b) ts at (starts (leaf name)) e refl
+  named at j e p b = takes_to (name_due p b) (equals_due p b) ts at (starts (leaf name)) j e refl
 
-  equalled : (at : ℕ) → StandsAt ts (at + 1) (speaks equals) → (p : Sentence) (b : Binding) →
-      outcome (equals_due p b) (at + 1) (drop (at + 1) ts) ≡ outcome (operand p (of_binding b) [] nothing) (at + 2) (drop (at + 2) ts)
+  equalled : (at k : ℕ) → StandsAt ts at (speaks equals) × (k ≡ at + 1) → (p : Sentence) (b : Binding) → outcome (equals_due p b) at (drop at ts) ≡ outcome (operand p (of_binding b) [] nothing) k (drop k ts)
   unfolding feed
-  equalled at e p b =
-      let two : at + 1 + 1 ≡ at + 2 = omega arith in
-      takes (equals_due p b) (operand p (of_binding b) [] nothing) ts (at + 1) (speaks equals) e refl
-      ∙ ap (λ n. outcome (operand p (of_binding b) [] nothing) n (drop n ts)) two
+  equalled at k e p b = takes_to (equals_due p b) (operand p (of_binding b) [] nothing) ts at (speaks equals) k e refl
 
   -- an expression behind what owns it
   whole : (at : ℕ) (t : Tree) (next : ℕ) → Led ts at 1 0 t next → (p : Sentence) (o : Owner) → outcome (operand p o [] nothing) at (drop at ts) ≡ outcome (after p o [] t) next (drop next ts)
   unfolding fill
   whole at t next h p o = h.leads p o [] nothing (omega arith)
 
-  pub goes_bound : (at : ℕ) (t : Tree) (next : ℕ) → StandsAt ts at (starts (leaf name)) → StandsAt ts (at + 1) (speaks equals) → Led ts (at + 2) 1 0 t next → Halts ts 1 next → GoesBound ts at t next
-  goes_bound at t next e f h stops =
+  pub goes_bound : (at j k : ℕ) (t : Tree) (next : ℕ) → StandsAt ts at (starts (leaf name)) × (j ≡ at + 1) → StandsAt ts j (speaks equals) × (k ≡ j + 1) → Led ts k 1 0 t next → Halts ts 1 next → GoesBound ts at t next
+  goes_bound at j k t next e f h stops =
       record {
-        leads = λ p b. named at e p b ∙ equalled at f p b ∙ whole (at + 2) t next h p (of_binding b);
-        past = omega (arith, h.past);
+        leads = λ p b. named at j e p b ∙ equalled j k f p b ∙ whole k t next h p (of_binding b);
+        past = omega (arith, e.1, f.1, h.past);
         within = h.within;
         halts = stops;
       }
 
-  pub unbound_name : (at : ℕ) → ¬ StandsAt ts at (starts (leaf name)) → (p : Sentence) (b : Binding) → outcome (name_due p b) at (drop at ts) ≡ Err at
+  pub unbound_name : (at : ℕ) (x : SentenceFault) → (¬ StandsAt ts at (starts (leaf name))) × (x ≡ Place at) → Unbound ts at x
   unfolding feed accept
-  unbound_name at e p b = Heard.name_off ts at (name_due p b) (equals_due p b) refl (λ r. refl) e
+  unbound_name at x e = subst (λ x. Unbound ts at x) (sym e.1) (λ p b. Heard.name_off ts at (name_due p b) (equals_due p b) refl (λ r. refl) e.0)
 
-  pub unbound_equals : (at : ℕ) → StandsAt ts at (starts (leaf name)) → ¬ StandsAt ts (at + 1) (speaks equals) → (p : Sentence) (b : Binding) → outcome (name_due p b) at (drop at ts) ≡ Err (at + 1)
-  unbound_equals at e f p b = named at e p b ∙ Heard.equals_off ts (at + 1) p b f
+  pub unbound_equals : (at j : ℕ) (x : SentenceFault) → StandsAt ts at (starts (leaf name)) × (j ≡ at + 1) → (¬ StandsAt ts j (speaks equals)) × (x ≡ Place j) → Unbound ts at x
+  unbound_equals at j x e f = subst (λ x. Unbound ts at x) (sym f.1) (λ p b. named at j e p b ∙ Heard.equals_off ts j p b f.0)
 
-  pub unbound_tree : (at : ℕ) (f : SentenceFault) → StandsAt ts at (starts (leaf name)) → StandsAt ts (at + 1) (speaks equals) → Faulted ts (at + 2) 1 f → Unbound ts at f
-  unbound_tree at Memory e g h = tt
-  unbound_tree at (Place k) e g h = λ p b. named at e p b ∙ equalled at g p b ∙ h p (of_binding b) [] nothing (omega arith)
-
-  pub unbound_on : (at : ℕ) (r : Result (Placed binding.Binding) SentenceFault) (y f : SentenceFault) → r ≡ Err y → y ≡ f → Unbound ts at f → Binds ts at r
-  unbound_on at r y f e same h = subst (λ x. Binds ts at x) (sym (e ∙ ap Err same)) h
+  pub unbound_tree : (at j k : ℕ) (x : SentenceFault) → StandsAt ts at (starts (leaf name)) × (j ≡ at + 1) → StandsAt ts j (speaks equals) × (k ≡ j + 1) → Faulted ts k 1 x → Unbound ts at x
+  unbound_tree at j k Memory e f h = tt
+  unbound_tree at j k (Place n) e f h = λ p b. named at j e p b ∙ equalled j k f p b ∙ h p (of_binding b) [] nothing (omega arith)
 
   -- one sort before what was stated
   pub step_stated : (c d : Sentence → State) (at : ℕ) (r : Role) → StandsAt ts at r → ((p : Sentence) → feed (c p) r ≡ Some (d p)) → (x : Result (Placed statement.Statement) SentenceFault) → Stated d ts (at + 1) x → Stated c ts at x
   step_stated c d at r e f (Ok x) h = record { leads = λ p. takes (c p) (d p) ts at r e (f p) ∙ h.leads p; past = omega (arith, h.past); within = h.within }
   step_stated c d at r e f (Err Memory) h = tt
   step_stated c d at r e f (Err (Place k)) h = λ p. takes (c p) (d p) ts at r e (f p) ∙ h p
-
-  pub stuck_on : (c : Sentence → State) (at : ℕ) (r : Result (Placed statement.Statement) SentenceFault) (y f : SentenceFault) → r ≡ Err y → y ≡ f → GetsStuck c ts at f → Stated c ts at r
-  stuck_on c at r y f e same h = subst (λ x. Stated c ts at x) (sym (e ∙ ap Err same)) h
 
   -- what follows `let`
   pub goes_let : (at : ℕ) (t : Tree) (next : ℕ) → ¬ StandsAt ts at (speaks recs) → GoesBound ts at t next → GoesOn (λ p. let_seen p) ts at (binds t) next
@@ -141,54 +131,50 @@ module _ (ts : List Sort) where
   stuck_first at Memory h = tt
   stuck_first at (Place k) h = λ p. h p first
 
-  -- a check behind its word
-  pub claim_plain : (at : ℕ) (f n : Bool) (w : Word) (t : Tree) (next : ℕ) → f ≡ false → Led ts at 1 0 t next → Halts ts 1 next → ¬ StandsAt ts next (speaks labels) →
-      GoesOn (λ p. operand p (of_check f n w) [] nothing) ts at (checks plain n w t) next
-  claim_plain at f n w t next off h stops e =
-      subst (λ x. GoesOn (λ p. operand p (of_check x n w) [] nothing) ts at (checks plain n w t) next) (sym off)
+  -- a check's mark behind its expression
+  pub mark_plain : (at : ℕ) (f : Bool) → f ≡ false → at ≤ length ts → Halts ts 1 at → ¬ StandsAt ts at (speaks labels) → GoesMarked ts at f plain at
+  mark_plain at f off within stops e =
+      subst (λ x. GoesMarked ts at x plain at) (sym off)
       (record {
-        leads = λ p.
-            whole at t next h p (of_check false n w)
-            ∙ Heard.leave_on ts next p (of_check false n w) t (checks plain n w t) refl (no_sign ts next stops) stops.bare (λ k. refl) (λ k. absurd (e k));
-        past = h.past;
-        within = h.within;
+        leads = λ p n w t. Heard.leave_on ts at p (of_check false n w) t (checks plain n w t) refl (no_sign ts at stops) stops.bare (λ k. refl) (λ k. absurd (e k));
+        past = omega arith;
+        within = within;
       })
 
-  pub claim_flag : (at : ℕ) (f n : Bool) (w : Word) (t : Tree) (next : ℕ) → f ≡ true → Led ts at 1 0 t next → Halts ts 1 next → ¬ StandsAt ts next (speaks labels) →
-      (p : Sentence) → outcome (operand p (of_check f n w) [] nothing) at (drop at ts) ≡ Err next
-  claim_flag at f n w t next on h stops e p =
-      ap (λ x. outcome (operand p (of_check x n w) [] nothing) at (drop at ts)) on
-      ∙ whole at t next h p (of_check true n w)
-      ∙ Heard.flag_off ts next p n w t (no_sign ts next stops) stops.bare e
+  pub mark_flag : (at : ℕ) (f : Bool) → f ≡ true → Halts ts 1 at → ¬ StandsAt ts at (speaks labels) → Unmarked ts at f (Place at)
+  mark_flag at f on stops e = subst (λ x. Unmarked ts at x (Place at)) (sym on) (λ p n w t. Heard.flag_off ts at p n w t (no_sign ts at stops) stops.bare e)
 
-  labelled_on : (at : ℕ) (f n : Bool) (w : Word) (t : Tree) (next : ℕ) → Led ts at 1 0 t next → StandsAt ts next (speaks labels) → (p : Sentence) →
-      outcome (operand p (of_check f n w) [] nothing) at (drop at ts) ≡ outcome (label_due p f n w t) (next + 1) (drop (next + 1) ts)
+  labelled_on : (at : ℕ) (f : Bool) → StandsAt ts at (speaks labels) → (p : Sentence) (n : Bool) (w : Word) (t : Tree) → outcome (after p (of_check f n w) [] t) at (drop at ts) ≡ outcome (label_due p f n w t) (at + 1) (drop (at + 1) ts)
   unfolding feed
-  labelled_on at f n w t next h e p =
-      whole at t next h p (of_check f n w)
-      ∙ takes (after p (of_check f n w) [] t) (label_due p f n w t) ts next (speaks labels) e refl
+  labelled_on at f e p n w t = takes (after p (of_check f n w) [] t) (label_due p f n w t) ts at (speaks labels) e refl
 
-  pub claim_label : (at : ℕ) (f n : Bool) (w : Word) (t : Tree) (next : ℕ) (m : Mark) → Led ts at 1 0 t next → StandsAt ts next (speaks labels) → StandsAt ts (next + 1) (starts (leaf name)) → m ≡ marked f →
-      GoesOn (λ p. operand p (of_check f n w) [] nothing) ts at (checks m n w t) (next + 2)
+  pub mark_label : (at : ℕ) (f : Bool) (m : Mark) (next : ℕ) → StandsAt ts at (speaks labels) → StandsAt ts (at + 1) (starts (leaf name)) × (next ≡ at + 1 + 1) → m ≡ marked f → GoesMarked ts at f m next
   unfolding feed
-  claim_label at f n w t next m h e g is =
-      let two : next + 1 + 1 ≡ next + 2 = omega arith in
-      record {
-        leads = λ p.
-            labelled_on at f n w t next h e p
-            ∙ takes (label_due p f n w t) (ready (also p (checks (marked f) n w t))) ts (next + 1) (starts (leaf name)) g refl
-            ∙ ap (λ k. outcome (ready (also p (checks (marked f) n w t))) k (drop k ts)) two
-            ∙ ap (λ x. outcome (ready (also p (checks x n w t))) (next + 2) (drop (next + 2) ts)) (sym is);
-        past = omega (arith, h.past);
-        within = omega (arith, here ts (next + 1) (starts (leaf name)) g);
-      }
+  mark_label at f m next e g same =
+      subst (λ x. GoesMarked ts at f x next) (sym same)
+      (record {
+        leads = λ p n w t. labelled_on at f e p n w t ∙ takes_to (label_due p f n w t) (ready (also p (checks (marked f) n w t))) ts (at + 1) (starts (leaf name)) next g refl;
+        past = omega (arith, g.1);
+        within = omega (arith, g.1, here ts (at + 1) (starts (leaf name)) g.0);
+      })
 
-  pub claim_nameless : (at : ℕ) (f n : Bool) (w : Word) (t : Tree) (next : ℕ) → Led ts at 1 0 t next → StandsAt ts next (speaks labels) → ¬ StandsAt ts (next + 1) (starts (leaf name)) →
-      (p : Sentence) → outcome (operand p (of_check f n w) [] nothing) at (drop at ts) ≡ Err (next + 1)
+  pub mark_nameless : (at : ℕ) (f : Bool) (x : SentenceFault) → StandsAt ts at (speaks labels) → (¬ StandsAt ts (at + 1) (starts (leaf name))) × (x ≡ Place (at + 1)) → Unmarked ts at f x
   unfolding feed accept
-  claim_nameless at f n w t next h e g p =
-      labelled_on at f n w t next h e p
-      ∙ Heard.name_off ts (next + 1) (label_due p f n w t) (ready (also p (checks (marked f) n w t))) refl (λ r. refl) g
+  mark_nameless at f x e g =
+      subst (λ x. Unmarked ts at f x) (sym g.1)
+      (λ p n w t. labelled_on at f e p n w t ∙ Heard.name_off ts (at + 1) (label_due p f n w t) (ready (also p (checks (marked f) n w t))) refl (λ r. refl) g.0)
+
+  -- a check behind its word
+  pub claim_goes : (at : ℕ) (f n : Bool) (w : Word) (t : Tree) (next : ℕ) (m : Mark) (end : ℕ) → Led ts at 1 0 t next → GoesMarked ts next f m end → GoesOn (λ p. operand p (of_check f n w) [] nothing) ts at (checks m n w t) end
+  claim_goes at f n w t next m end h g = record { leads = λ p. whole at t next h p (of_check f n w) ∙ g.leads p n w t; past = omega (arith, h.past, g.past); within = g.within }
+
+  pub claim_unmarked : (at : ℕ) (f n : Bool) (w : Word) (t : Tree) (next : ℕ) (x : SentenceFault) → Led ts at 1 0 t next → Unmarked ts next f x → GetsStuck (λ p. operand p (of_check f n w) [] nothing) ts at x
+  claim_unmarked at f n w t next Memory h g = tt
+  claim_unmarked at f n w t next (Place k) h g = λ p. whole at t next h p (of_check f n w) ∙ g p n w t
+
+  pub claim_stuck : (at : ℕ) (f n : Bool) (w : Word) (x : SentenceFault) → Faulted ts at 1 x → GetsStuck (λ p. operand p (of_check f n w) [] nothing) ts at x
+  claim_stuck at f n w Memory h = tt
+  claim_stuck at f n w (Place k) h = λ p. h p (of_check f n w) [] nothing (omega arith)
 
   -- no statement begins
   pub ready_none : (at : ℕ) → at < length ts → ¬ StandsAt ts at complements → role_speech (first_role (drop at ts)) ≡ None → (p : Sentence) → outcome (ready p) at (drop at ts) ≡ Err at

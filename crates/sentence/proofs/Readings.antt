@@ -1,11 +1,11 @@
 -- A text is read statement by statement. Assumes nothing.
-use Rattle.std.proofs.Common.{◌≡◌, ℕ, ◌≤◌, Bool, true, false, cond, List, [], ◌∷◌, ◌++◌, length, drop, Ok, Err, Result, sym, refl, ap, ◌∙◌, subst, arith, drop_of_length-le}
+use Rattle.std.proofs.Common.{◌≡◌, ℕ, ◌≤◌, Bool, true, false, List, [], ◌∷◌, ◌++◌, length, drop, Ok, Err, sym, refl, ap, ◌∙◌, subst, arith, drop_of_length-le}
+use Rattle.std.specs.Int.{from_bool}
 use Rattle.std.specs.Prelude.{◌↔◌, IsTrue}
 use Rattle.sentence.specs.declared.sort.Sort.{Sort}
 use Rattle.sentence.specs.declared.fault.SentenceFault.{SentenceFault}
 use Rattle.sentence.specs.declared.fault.SentenceFault.TheVariants.{Memory, Place}
 use Rattle.sentence.specs.declared.statement.Statement as statement
-use Rattle.sentence.specs.declared.statement.Sentence as sentence
 use Rattle.sentence.specs.Trees.{Sentence}
 use Rattle.sentence.specs.Texts.{Writes}
 use Rattle.sentence.specs.Looks.{StandsAt}
@@ -36,10 +36,10 @@ reading_titled ts e = record { leads = takes begun (ready (blank true)) ts 0 (sp
 reading_plain : (ts : List Sort) → ¬ StandsAt ts 0 (speaks titles) → ReadingOn ts false [] 0
 reading_plain ts e = record { leads = Heard.title_off ts 0 e; within = omega arith }
 
-pub reading_first : (ts : List Sort) (b : Bool) (ss : List statement.Statement) (at : ℕ) → (IsTrue b ↔ StandsAt ts 0 (speaks titles)) → at ≡ cond b 1 0 → ss ≡ [] → ReadingOn ts b ss at
+pub reading_first : (ts : List Sort) (b : Bool) (ss : List statement.Statement) (at : ℕ) → (IsTrue b ↔ StandsAt ts 0 (speaks titles)) → at ≡ from_bool b → ss ≡ [] → ReadingOn ts b ss at
 reading_first ts b ss at e is none = subst (λ x. ReadingOn ts b x at) (sym none) (subst (λ k. ReadingOn ts b [] k) (sym is) (go b e))
   where
-    go : (b : Bool) → (IsTrue b ↔ StandsAt ts 0 (speaks titles)) → ReadingOn ts b [] (cond b 1 0)
+    go : (b : Bool) → (IsTrue b ↔ StandsAt ts 0 (speaks titles)) → ReadingOn ts b [] (from_bool b)
     go true e = reading_titled ts (e.0 refl)
     go false e = reading_plain ts (not_so false e refl)
 
@@ -60,9 +60,6 @@ reading_done ts b ss at h past =
     subst (λ r. Tells ts r) e (machine_told ts)
 
 -- a statement is at fault
-pub reading_stuck : (ts : List Sort) (b : Bool) (ss : List statement.Statement) (at : ℕ) (r : Result sentence.Sentence SentenceFault) (y f : SentenceFault) → r ≡ Err y → y ≡ f → ReadingOn ts b ss at → GetsStuck (λ p. ready p) ts at f → ReadAs ts r
-reading_stuck ts b ss at r y f e same h g = subst (λ x. ReadAs ts x) (sym (e ∙ ap Err same)) (go f g)
-  where
-    go : (f : SentenceFault) → GetsStuck (λ p. ready p) ts at f → ReadAs ts (Err f)
-    go Memory g = tt
-    go (Place k) g = subst (λ r. Tells ts r) (h.leads ∙ g (so_far b ss)) (machine_told ts)
+pub reading_stuck : (ts : List Sort) (b : Bool) (ss : List statement.Statement) (at : ℕ) (f : SentenceFault) → ReadingOn ts b ss at → GetsStuck (λ p. ready p) ts at f → ReadAs ts (Err f)
+reading_stuck ts b ss at Memory h g = tt
+reading_stuck ts b ss at (Place k) h g = subst (λ r. Tells ts r) (h.leads ∙ g (so_far b ss)) (machine_told ts)
