@@ -1,226 +1,173 @@
 -- One look at what comes first, and what the machine makes of it. Assumes nothing.
-use Rattle.std.proofs.Common.{◌≡◌, ℕ, suc, ◌+◌, ◌<◌, ◌≤◌, Bool, true, false, cond, ◌⊎◌, List, [], ◌∷◌, length, drop, Some, None, Err, Result, sym, refl, ap, ◌∙◌, inl, inr, add-one, arith}
+use Rattle.std.proofs.Common.{◌≡◌, ℕ, suc, ◌+◌, ◌<◌, ◌≤◌, Bool, true, false, ◌⊎◌, List, [], ◌∷◌, length, drop, Some, None, Err, Option, Result, sym, refl, ap, ◌∙◌, inl, inr, add-one}
 use Rattle.std.proofs.lemmas.Bool.{cases_lt}
+use Rattle.std.specs.Prelude.{is_some}
 use Rattle.sentence.specs.declared.sort.Sort.{Sort}
-use Rattle.sentence.specs.Trees.{Leaf, Bracket, round, square, Post, closure, Infix, bar, semicolon, backslash, ampersand, product, Tree, atom, inside, Sentence}
-use Rattle.sentence.specs.Looks.{first_role, role_start, role_starts, role_complements, same_bracket, role_closes, sign_told, role_sign, post_told, role_post, behind_first, first_sign, first_post}
-use Rattle.sentence.specs.Machine.{Start, leaf, opens, closes, joins, ends, Role, starts, goes, complements, speaks, role, suffix, fill, Wait, nothing, behind, tilded, Frame, Owner, State, operand, after, starred, starting, going, feed, accept, told_on, outcome}
-use Rattle.sentence.proofs.Looking.{first_none, behind_drop}
-
--- a clash of two values of an option
-pub no_some : {A : Type 0} (P : Type 0) (x : A) → None ≡ Some x → P
-no_some P x e = let z : ◌≡◌ {A = ℕ} 0 1 = cc in absurd (omega arith)
-
-pub no_true : (P : Type 0) → false ≡ true → P
-no_true P e = let z : ◌≡◌ {A = ℕ} 0 1 = cc in absurd (omega arith)
+use Rattle.sentence.specs.Trees.{Word, Bracket, round, square, Post, closure, Infix, product, Tree, inside, Sentence}
+use Rattle.sentence.specs.Looks.{first_role, StandsAt, role_start, role_speech, role_word, role_sign, role_post, begins_atom, sign_at, post_at}
+use Rattle.sentence.specs.Machine.{Start, closes, joins, ends, Speech, words, Role, starts, goes, complements, speaks, suffix, fill, Wait, behind, Frame, Owner, State, operand, after, starred, shut, feed, accept, told_end, told_on, outcome}
+use Rattle.sentence.proofs.Looking.{first_none, behind_first, behind_drop}
 
 -- what comes first stands within the sorts
-pub here : (ts : List Sort) (at : ℕ) → (first_role (drop at ts) ≡ None → ⊥) → at < length ts
-here ts at h = go (cases_lt at (length ts))
+pub here : (ts : List Sort) (at : ℕ) (r : Role) → StandsAt ts at r → at < length ts
+here ts at r e = go (cases_lt at (length ts))
   where
     go : (at < length ts) ⊎ (length ts ≤ at) → at < length ts
     go (inl k) = k
-    go (inr k) = absurd (h (sym (first_none ts at k)))
+    go (inr k) = let n = first_none ts at k in let no : ⊥ = cc in absurd no
 
-pub start_here : (ts : List Sort) (at : ℕ) (s : Start) → role_start (first_role (drop at ts)) ≡ Some s → at < length ts
-start_here ts at s e = here ts at (λ n. no_some ⊥ s (sym (ap role_start n) ∙ e))
+-- what a look found
+pub start_so : (r : Option Role) (s : Start) → role_start r ≡ Some s → r ≡ Some (starts s)
+start_so (Some (starts x)) s e = cc
+start_so r s e = cc
 
-pub complements_here : (ts : List Sort) (at : ℕ) → role_complements (first_role (drop at ts)) ≡ true → at < length ts
-complements_here ts at e = here ts at (λ n. no_true ⊥ (sym (ap role_complements n) ∙ e))
+pub speech_so : (r : Option Role) (s : Speech) → role_speech r ≡ Some s → r ≡ Some (speaks s)
+speech_so (Some (speaks x)) s e = cc
+speech_so r s e = cc
 
-pub closes_here : (ts : List Sort) (at : ℕ) (b : Bracket) → role_closes b (first_role (drop at ts)) ≡ true → at < length ts
-closes_here ts at b e = here ts at (λ n. no_true ⊥ (sym (ap (role_closes b) n) ∙ e))
+pub word_so : (r : Option Role) (w : Word) → role_word r ≡ Some w → r ≡ Some (speaks (words w))
+word_so (Some (speaks (words x))) w e = cc
+word_so r w e = cc
 
-pub sign_here : (ts : List Sort) (at : ℕ) (i : Infix) → first_sign (drop at ts) ≡ Some i → at < length ts
-unfolding first_sign
-sign_here ts at i e = here ts at (λ n. no_some ⊥ i (sym (ap (λ r. role_sign r (role_starts (first_role (behind_first (drop at ts))))) n) ∙ e))
+sign_so : (r : Option Role) (b : Bool) (i : Infix) → role_sign r b ≡ Some i → r ≡ Some (goes (joins i))
+sign_so (Some (goes (joins product))) false i e = cc
+sign_so (Some (goes (joins product))) true i e = cc
+sign_so (Some (goes (joins j))) b i e = cc
+sign_so r b i e = cc
 
-pub post_here : (ts : List Sort) (at : ℕ) (q : Post) → first_post (drop at ts) ≡ Some q → at < length ts
-unfolding first_post
-post_here ts at q e = here ts at (λ n. no_some ⊥ q (sym (ap (λ r. role_post r (role_starts (first_role (behind_first (drop at ts))))) n) ∙ e))
+post_so : (r : Option Role) (b : Bool) (q : Post) → role_post r b ≡ Some q → (x : Role) × (r ≡ Some x)
+post_so None b q e = let no : ⊥ = cc in absurd no
+post_so (Some x) b q e = (x, refl)
+
+pub sign_here : (ts : List Sort) (at : ℕ) (i : Infix) → sign_at ts at ≡ Some i → at < length ts
+sign_here ts at i e = here ts at (goes (joins i)) (sign_so (first_role (drop at ts)) (begins_atom (drop (at + 1) ts)) i e)
+
+pub post_here : (ts : List Sort) (at : ℕ) (q : Post) → post_at ts at ≡ Some q → at < length ts
+post_here ts at q e = let r = post_so (first_role (drop at ts)) (begins_atom (drop (at + 1) ts)) q e in here ts at r.0 r.1
+
+-- what the machine makes of the first role
+abbrev pub look : State → ℕ → List Sort → Option Role → Result Sentence ℕ
+look c at rest None = told_end (accept c) at
+look c at rest (Some r) = told_on (feed c r) at (λ d. outcome d (suc at) (behind_first rest))
+
+pub looks : (c : State) (at : ℕ) (rest : List Sort) → outcome c at rest ≡ look c at rest (first_role rest)
+unfolding outcome
+looks c at [] = refl
+looks c at (s ∷ rest) = refl
+
+-- two states that make the same of it
+pub alike : (c d : State) (at : ℕ) (rest : List Sort) → look c at rest (first_role rest) ≡ look d at rest (first_role rest) → outcome c at rest ≡ outcome d at rest
+alike c d at rest e = looks c at rest ∙ e ∙ sym (looks d at rest)
 
 -- a step over the first sort, said by places
 pub stepped : (c d : State) (ts : List Sort) (at : ℕ) → outcome c at (drop at ts) ≡ outcome d (suc at) (behind_first (drop at ts)) → outcome c at (drop at ts) ≡ outcome d (at + 1) (drop (at + 1) ts)
 stepped c d ts at e = e ∙ ap (outcome d (suc at)) (behind_drop at ts) ∙ ap (λ n. outcome d n (drop n ts)) (sym (add-one at))
 
+-- a sort that is taken
+pub takes : (c d : State) (ts : List Sort) (at : ℕ) (r : Role) → StandsAt ts at r → feed c r ≡ Some d → outcome c at (drop at ts) ≡ outcome d (at + 1) (drop (at + 1) ts)
+takes c d ts at r e h =
+    stepped c d ts at
+    (looks c at (drop at ts) ∙ ap (look c at (drop at ts)) e ∙ ap (λ f. told_on f at (λ d. outcome d (suc at) (behind_first (drop at ts)))) h)
+
+-- the same, where it is said what the place behind is
+pub takes_to : (c d : State) (ts : List Sort) (at : ℕ) (r : Role) (k : ℕ) → StandsAt ts at r × (k ≡ at + 1) → feed c r ≡ Some d → outcome c at (drop at ts) ≡ outcome d k (drop k ts)
+takes_to c d ts at r k e h = takes c d ts at r e.0 h ∙ ap (λ n. outcome d n (drop n ts)) (sym e.1)
+
+-- what begins behind the first sort
+next_atom : (ts : List Sort) (at : ℕ) → begins_atom (behind_first (drop at ts)) ≡ begins_atom (drop (at + 1) ts)
+next_atom ts at = ap begins_atom (behind_drop at ts ∙ ap (λ n. drop n ts) (sym (add-one at)))
+
+-- no sign goes on
+abbrev pub Stops : Option Role → Type 0
+Stops (Some (goes (joins i))) = ⊥
+Stops (Some (goes (ends q))) = ⊥
+Stops r = Unit {0}
+
+stops_role : (r : Option Role) (b : Bool) → role_sign r b ≡ None → role_post r b ≡ None → Stops r
+stops_role (Some (goes (joins product))) true f g = cc
+stops_role (Some (goes (joins product))) false f g = cc
+stops_role (Some (goes (joins i))) b f g = cc
+stops_role (Some (goes (ends q))) b f g = cc
+stops_role r b f g = tt
+
+pub stops : (ts : List Sort) (at : ℕ) → sign_at ts at ≡ None → post_at ts at ≡ None → Stops (first_role (drop at ts))
+stops ts at f g = stops_role (first_role (drop at ts)) (begins_atom (drop (at + 1) ts)) f g
+
 module _ (p : Sentence) (o : Owner) (fs : List Frame) where
-  -- an atom begins
-  starts_on : (w : Wait) (at : ℕ) (rest : List Sort) (s : Start) → role_start (first_role rest) ≡ Some s →
-      outcome (operand p o fs w) at rest ≡ told_on (starting p o fs w s) at (λ d. outcome d (suc at) (behind_first rest))
-  unfolding outcome feed
-  starts_on w at [] s e = no_some _ s e
-  starts_on w at (a ∷ rest) s e = go (role a) e
+  -- no atom begins there
+  pub starts_not : (w : Wait) (ts : List Sort) (at : ℕ) → role_start (first_role (drop at ts)) ≡ None → ¬ StandsAt ts at complements → outcome (operand p o fs w) at (drop at ts) ≡ Err at
+  unfolding feed accept
+  starts_not w ts at e h = looks (operand p o fs w) at (drop at ts) ∙ go (first_role (drop at ts)) e h
     where
-      go : (r : Role) → role_start (Some r) ≡ Some s → told_on (feed (operand p o fs w) r) at (λ d. outcome d (suc at) rest) ≡ told_on (starting p o fs w s) at (λ d. outcome d (suc at) rest)
-      go (starts x) e = let same : x ≡ s = cc in ap (λ y. told_on (starting p o fs w y) at (λ d. outcome d (suc at) rest)) same
-      go (goes g) e = no_some _ s e
-      go complements e = no_some _ s e
-      go (speaks x) e = no_some _ s e
-
-  pub leaf_on : (w : Wait) (at : ℕ) (rest : List Sort) (l : Leaf) → role_start (first_role rest) ≡ Some (leaf l) →
-      outcome (operand p o fs w) at rest ≡ outcome (after p o fs (fill w (atom l))) (suc at) (behind_first rest)
-  leaf_on w at rest l e = starts_on w at rest (leaf l) e
-
-  pub opens_on : (w : Wait) (at : ℕ) (rest : List Sort) (b : Bracket) → role_start (first_role rest) ≡ Some (opens b) →
-      outcome (operand p o fs w) at rest ≡ outcome (operand p o (record { bracket = b; waits = w } ∷ fs) nothing) (suc at) (behind_first rest)
-  opens_on w at rest b e = starts_on w at rest (opens b) e
-
-  -- nothing begins there
-  pub starts_not : (w : Wait) (at : ℕ) (rest : List Sort) → role_start (first_role rest) ≡ None → role_complements (first_role rest) ≡ false → outcome (operand p o fs w) at rest ≡ Err at
-  unfolding outcome feed accept
-  starts_not w at [] e h = refl
-  starts_not w at (a ∷ rest) e h = go (role a) e h
-    where
-      go : (r : Role) → role_start (Some r) ≡ None → role_complements (Some r) ≡ false → told_on (feed (operand p o fs w) r) at (λ d. outcome d (suc at) rest) ≡ Err at
-      go (starts x) e h = no_some _ x (sym e)
-      go (goes g) e h = refl
-      go complements e h = no_true _ (sym h)
-      go (speaks x) e h = refl
-
-  -- the prefix
-  pub complements_on : (w : Wait) (at : ℕ) (rest : List Sort) → role_complements (first_role rest) ≡ true →
-      outcome (operand p o fs w) at rest ≡ outcome (operand p o fs (tilded w)) (suc at) (behind_first rest)
-  unfolding outcome feed
-  complements_on w at [] e = no_true _ e
-  complements_on w at (a ∷ rest) e = go (role a) e
-    where
-      go : (r : Role) → role_complements (Some r) ≡ true → told_on (feed (operand p o fs w) r) at (λ d. outcome d (suc at) rest) ≡ outcome (operand p o fs (tilded w)) (suc at) rest
-      go (starts x) e = no_true _ e
-      go (goes g) e = no_true _ e
-      go complements e = refl
-      go (speaks x) e = no_true _ e
+      go : (r : Option Role) → role_start r ≡ None → (r ≡ Some complements → ⊥) → look (operand p o fs w) at (drop at ts) r ≡ Err at
+      go (Some (starts x)) e h = cc
+      go (Some complements) e h = absurd (h refl)
+      go r e h = refl
 
   -- behind a star: an atom or none
-  star_on : (t : Tree) (at : ℕ) (rest : List Sort) → role_starts (first_role rest) ≡ true → outcome (starred p o fs t) at rest ≡ outcome (operand p o fs (behind t product)) at rest
-  unfolding outcome feed
-  star_on t at [] e = no_true _ e
-  star_on t at (a ∷ rest) e = go (role a) e
+  star_on : (t : Tree) (at : ℕ) (rest : List Sort) → begins_atom rest ≡ true → outcome (starred p o fs t) at rest ≡ outcome (operand p o fs (behind t product)) at rest
+  unfolding feed accept
+  star_on t at rest e = alike (starred p o fs t) (operand p o fs (behind t product)) at rest (go (first_role rest) e)
     where
-      go : (r : Role) → role_starts (Some r) ≡ true → told_on (feed (starred p o fs t) r) at (λ d. outcome d (suc at) rest) ≡ told_on (feed (operand p o fs (behind t product)) r) at (λ d. outcome d (suc at) rest)
-      go (starts x) e = refl
-      go (goes g) e = no_true _ e
-      go complements e = no_true _ e
-      go (speaks x) e = no_true _ e
+      go : (r : Option Role) → is_some (role_start r) ≡ true → look (starred p o fs t) at rest r ≡ look (operand p o fs (behind t product)) at rest r
+      go (Some (starts x)) e = refl
+      go r e = cc
 
-  star_off : (t : Tree) (at : ℕ) (rest : List Sort) → role_starts (first_role rest) ≡ false → outcome (starred p o fs t) at rest ≡ outcome (after p o fs (suffix t closure)) at rest
-  unfolding outcome feed accept
-  star_off t at [] e = refl
-  star_off t at (a ∷ rest) e = go (role a) e
+  star_off : (t : Tree) (at : ℕ) (rest : List Sort) → begins_atom rest ≡ false → outcome (starred p o fs t) at rest ≡ outcome (after p o fs (suffix t closure)) at rest
+  unfolding feed accept
+  star_off t at rest e = alike (starred p o fs t) (after p o fs (suffix t closure)) at rest (go (first_role rest) e)
     where
-      go : (r : Role) → role_starts (Some r) ≡ false → told_on (feed (starred p o fs t) r) at (λ d. outcome d (suc at) rest) ≡ told_on (feed (after p o fs (suffix t closure)) r) at (λ d. outcome d (suc at) rest)
-      go (starts x) e = no_true _ (sym e)
-      go (goes g) e = refl
-      go complements e = refl
-      go (speaks x) e = refl
+      go : (r : Option Role) → is_some (role_start r) ≡ false → look (starred p o fs t) at rest r ≡ look (after p o fs (suffix t closure)) at rest r
+      go (Some (starts x)) e = cc
+      go r e = refl
 
   -- an infix sign comes
-  pub sign_on : (t : Tree) (at : ℕ) (rest : List Sort) (i : Infix) → first_sign rest ≡ Some i → outcome (after p o fs t) at rest ≡ outcome (operand p o fs (behind t i)) (suc at) (behind_first rest)
-  unfolding outcome feed first_sign
-  sign_on t at [] i e = no_some _ i e
-  sign_on t at (a ∷ rest) i e = go (role a) e
+  pub sign_on : (t : Tree) (ts : List Sort) (at : ℕ) (i : Infix) → sign_at ts at ≡ Some i → outcome (after p o fs t) at (drop at ts) ≡ outcome (operand p o fs (behind t i)) (at + 1) (drop (at + 1) ts)
+  unfolding feed accept
+  sign_on t ts at i e = stepped (after p o fs t) (operand p o fs (behind t i)) ts at (looks (after p o fs t) at (drop at ts) ∙ go (first_role (drop at ts)) (begins_atom (drop (at + 1) ts)) (next_atom ts at) e)
     where
       to : Infix → Result Sentence ℕ
-      to j = outcome (operand p o fs (behind t j)) (suc at) rest
+      to j = outcome (operand p o fs (behind t j)) (suc at) (behind_first (drop at ts))
 
-      star : (b : Bool) → role_starts (first_role rest) ≡ b → cond b (Some product) None ≡ Some i → outcome (starred p o fs t) (suc at) rest ≡ to i
-      star true f e = let same : product ≡ i = cc in star_on t (suc at) rest f ∙ ap to same
-      star false f e = no_some _ i e
-
-      told : (j : Infix) → sign_told j (role_starts (first_role rest)) ≡ Some i → told_on (going p o fs t (joins j)) at (λ d. outcome d (suc at) rest) ≡ to i
-      told bar e = let same : bar ≡ i = cc in ap to same
-      told semicolon e = let same : semicolon ≡ i = cc in ap to same
-      told backslash e = let same : backslash ≡ i = cc in ap to same
-      told ampersand e = let same : ampersand ≡ i = cc in ap to same
-      told product e = star (role_starts (first_role rest)) refl e
-
-      go : (r : Role) → role_sign (Some r) (role_starts (first_role rest)) ≡ Some i → told_on (feed (after p o fs t) r) at (λ d. outcome d (suc at) rest) ≡ to i
-      go (starts x) e = no_some _ i e
-      go (goes (closes c)) e = no_some _ i e
-      go (goes (joins j)) e = told j e
-      go (goes (ends q)) e = no_some _ i e
-      go complements e = no_some _ i e
-      go (speaks x) e = no_some _ i e
+      go : (r : Option Role) (b : Bool) → begins_atom (behind_first (drop at ts)) ≡ b → role_sign r b ≡ Some i → look (after p o fs t) at (drop at ts) r ≡ to i
+      go (Some (goes (joins product))) true f e = let same : product ≡ i = cc in star_on t (suc at) (behind_first (drop at ts)) f ∙ ap to same
+      go (Some (goes (joins product))) false f e = cc
+      go (Some (goes (joins j))) b f e = let same : j ≡ i = cc in ap to same
+      go r b f e = cc
 
   -- a sign behind an operand comes
-  pub post_on : (t : Tree) (at : ℕ) (rest : List Sort) (q : Post) → first_post rest ≡ Some q → outcome (after p o fs t) at rest ≡ outcome (after p o fs (suffix t q)) (suc at) (behind_first rest)
-  unfolding outcome feed first_post
-  post_on t at [] q e = no_some _ q e
-  post_on t at (a ∷ rest) q e = go (role a) e
+  pub post_on : (t : Tree) (ts : List Sort) (at : ℕ) (q : Post) → post_at ts at ≡ Some q → outcome (after p o fs t) at (drop at ts) ≡ outcome (after p o fs (suffix t q)) (at + 1) (drop (at + 1) ts)
+  unfolding feed accept
+  post_on t ts at q e = stepped (after p o fs t) (after p o fs (suffix t q)) ts at (looks (after p o fs t) at (drop at ts) ∙ go (first_role (drop at ts)) (begins_atom (drop (at + 1) ts)) (next_atom ts at) e)
     where
       to : Post → Result Sentence ℕ
-      to s = outcome (after p o fs (suffix t s)) (suc at) rest
+      to s = outcome (after p o fs (suffix t s)) (suc at) (behind_first (drop at ts))
 
-      star : (b : Bool) → role_starts (first_role rest) ≡ b → cond b None (Some closure) ≡ Some q → outcome (starred p o fs t) (suc at) rest ≡ to q
-      star true f e = no_some _ q e
-      star false f e = let same : closure ≡ q = cc in star_off t (suc at) rest f ∙ ap to same
-
-      told : (j : Infix) → post_told j (role_starts (first_role rest)) ≡ Some q → told_on (going p o fs t (joins j)) at (λ d. outcome d (suc at) rest) ≡ to q
-      told bar e = no_some _ q e
-      told semicolon e = no_some _ q e
-      told backslash e = no_some _ q e
-      told ampersand e = no_some _ q e
-      told product e = star (role_starts (first_role rest)) refl e
-
-      go : (r : Role) → role_post (Some r) (role_starts (first_role rest)) ≡ Some q → told_on (feed (after p o fs t) r) at (λ d. outcome d (suc at) rest) ≡ to q
-      go (starts x) e = no_some _ q e
-      go (goes (closes c)) e = no_some _ q e
-      go (goes (joins j)) e = told j e
-      go (goes (ends s)) e = let same : s ≡ q = cc in ap to same
-      go complements e = no_some _ q e
-      go (speaks x) e = no_some _ q e
+      go : (r : Option Role) (b : Bool) → begins_atom (behind_first (drop at ts)) ≡ b → role_post r b ≡ Some q → look (after p o fs t) at (drop at ts) r ≡ to q
+      go (Some (goes (joins product))) true f e = cc
+      go (Some (goes (joins product))) false f e = let same : closure ≡ q = cc in star_off t (suc at) (behind_first (drop at ts)) f ∙ ap to same
+      go (Some (goes (ends s))) b f e = let same : s ≡ q = cc in ap to same
+      go r b f e = cc
 
   -- a bracket closes
-  pub closes_on : (t : Tree) (w : Wait) (at : ℕ) (rest : List Sort) (b : Bracket) → role_closes b (first_role rest) ≡ true →
-      outcome (after p o (record { bracket = b; waits = w } ∷ fs) t) at rest ≡ outcome (after p o fs (fill w (inside b t))) (suc at) (behind_first rest)
-  unfolding outcome feed
-  closes_on t w at [] b e = no_true _ e
-  closes_on t w at (a ∷ rest) b e = go (role a) e
-    where
-      shuts : (b c : Bracket) → same_bracket b c ≡ true →
-          told_on (going p o (record { bracket = b; waits = w } ∷ fs) t (closes c)) at (λ d. outcome d (suc at) rest) ≡ outcome (after p o fs (fill w (inside b t))) (suc at) rest
-      shuts round round e = refl
-      shuts round square e = no_true _ e
-      shuts square round e = no_true _ e
-      shuts square square e = refl
-
-      go : (r : Role) → role_closes b (Some r) ≡ true →
-          told_on (feed (after p o (record { bracket = b; waits = w } ∷ fs) t) r) at (λ d. outcome d (suc at) rest) ≡ outcome (after p o fs (fill w (inside b t))) (suc at) rest
-      go (starts x) e = no_true _ e
-      go (goes (closes c)) e = shuts b c e
-      go (goes (joins j)) e = no_true _ e
-      go (goes (ends s)) e = no_true _ e
-      go complements e = no_true _ e
-      go (speaks x) e = no_true _ e
+  pub shuts : (t : Tree) (w : Wait) (b : Bracket) → feed (after p o (record { bracket = b; waits = w } ∷ fs) t) (goes (closes b)) ≡ Some (after p o fs (fill w (inside b t)))
+  unfolding feed
+  shuts t w round = refl
+  shuts t w square = refl
 
   -- nothing goes on, and the bracket does not close
-  pub closes_not : (t : Tree) (w : Wait) (at : ℕ) (rest : List Sort) (b : Bracket) → role_closes b (first_role rest) ≡ false → first_sign rest ≡ None → first_post rest ≡ None →
-      outcome (after p o (record { bracket = b; waits = w } ∷ fs) t) at rest ≡ Err at
-  unfolding outcome feed accept first_sign first_post
-  closes_not t w at [] b e f g = refl
-  closes_not t w at (a ∷ rest) b e f g = go (role a) e f g
+  pub closes_not : (t : Tree) (w : Wait) (ts : List Sort) (at : ℕ) (b : Bracket) → ¬ StandsAt ts at (goes (closes b)) → sign_at ts at ≡ None → post_at ts at ≡ None →
+      outcome (after p o (record { bracket = b; waits = w } ∷ fs) t) at (drop at ts) ≡ Err at
+  unfolding feed accept
+  closes_not t w ts at b h f g = looks (after p o (record { bracket = b; waits = w } ∷ fs) t) at (drop at ts) ∙ go (first_role (drop at ts)) (stops ts at f g) h
     where
-      shuts : (b c : Bracket) → same_bracket b c ≡ false → told_on (going p o (record { bracket = b; waits = w } ∷ fs) t (closes c)) at (λ d. outcome d (suc at) rest) ≡ Err at
-      shuts round round e = no_true _ (sym e)
-      shuts round square e = refl
-      shuts square round e = refl
-      shuts square square e = no_true _ (sym e)
+      shut_not : (b c : Bracket) → (c ≡ b → ⊥) → told_on (shut p o fs t w b c) at (λ d. outcome d (suc at) (behind_first (drop at ts))) ≡ Err at
+      shut_not round round h = absurd (h refl)
+      shut_not square square h = absurd (h refl)
+      shut_not b c h = refl
 
-      star : (P : Type 0) (b : Bool) → cond b (Some product) None ≡ None → cond b None (Some closure) ≡ None → P
-      star P true f g = no_some P product (sym f)
-      star P false f g = no_some P closure (sym g)
-
-      told : (P : Type 0) (j : Infix) → sign_told j (role_starts (first_role rest)) ≡ None → post_told j (role_starts (first_role rest)) ≡ None → P
-      told P bar f g = no_some P bar (sym f)
-      told P semicolon f g = no_some P semicolon (sym f)
-      told P backslash f g = no_some P backslash (sym f)
-      told P ampersand f g = no_some P ampersand (sym f)
-      told P product f g = star P (role_starts (first_role rest)) f g
-
-      go : (r : Role) → role_closes b (Some r) ≡ false → role_sign (Some r) (role_starts (first_role rest)) ≡ None → role_post (Some r) (role_starts (first_role rest)) ≡ None →
-          told_on (feed (after p o (record { bracket = b; waits = w } ∷ fs) t) r) at (λ d. outcome d (suc at) rest) ≡ Err at
-      go (starts x) e f g = refl
-      go (goes (closes c)) e f g = shuts b c e
-      go (goes (joins j)) e f g = told _ j f g
-      go (goes (ends s)) e f g = no_some _ s (sym g)
-      go complements e f g = refl
-      go (speaks x) e f g = refl
+      go : (r : Option Role) → Stops r → (r ≡ Some (goes (closes b)) → ⊥) → look (after p o (record { bracket = b; waits = w } ∷ fs) t) at (drop at ts) r ≡ Err at
+      go (Some (goes (closes c))) q h = shut_not b c (λ e. h (ap (λ x. Some (goes (closes x))) e))
+      go (Some (goes (joins i))) q h = absurd q
+      go (Some (goes (ends s))) q h = absurd q
+      go r q h = refl

@@ -1,41 +1,29 @@
 -- The sort at a place is the first of what is left there. Assumes nothing.
-use Rattle.std.proofs.Common.{◌≡◌, ℕ, zero, suc, ◌+◌, ◌<◌, ◌≤◌, Bool, List, [], ◌∷◌, length, get_or, drop, Some, None, Option, sym, refl, ap, ◌∙◌, add-one, drop_of_length-le, drop-cons}
+use Rattle.std.proofs.Common.{◌≡◌, ℕ, zero, suc, ◌≤◌, Bool, true, false, List, [], ◌∷◌, length, drop, None, Ok, Err, Result, sym, refl, ap, subst, drop_of_length-le}
+use Rattle.std.specs.Prelude.{◌↔◌, IsTrue, IsErr, IsErrAnd}
+use Rattle.sentence.specs.declared.fault.SentenceFault.{SentenceFault}
 use Rattle.sentence.specs.declared.sort.Sort.{Sort}
-use Rattle.sentence.specs.Trees.{Infix, Post}
-use Rattle.sentence.specs.Roles.{Role, role}
-use Rattle.sentence.specs.Looks.{first_role, role_starts, role_sign, role_post, behind_first, first_sign, first_post}
-
-pub first_at : (ts : List Sort) (at : ℕ) (d : Sort) (r : Role) → at < length ts → r ≡ role (get_or ts at d) → Some r ≡ first_role (drop at ts)
-first_at ts at d r h e = ap Some e ∙ sym (ap first_role (drop-cons ts at d h))
+use Rattle.sentence.specs.Looks.{first_role}
 
 pub first_none : (ts : List Sort) (at : ℕ) → length ts ≤ at → None ≡ first_role (drop at ts)
 first_none ts at h = sym (ap first_role (drop_of_length-le ts h))
 
--- what is left behind the first
+-- what stands behind the first sort
+abbrev pub behind_first : List Sort → List Sort
+behind_first [] = []
+behind_first (s ∷ rest) = rest
+
 pub behind_drop : (n : ℕ) (ts : List Sort) → behind_first (drop n ts) ≡ drop (suc n) ts
 behind_drop zero [] = refl
 behind_drop zero (s ∷ ts) = refl
 behind_drop (suc n) [] = refl
 behind_drop (suc n) (s ∷ ts) = behind_drop n ts
 
-pub sign_at : (ts : List Sort) (at : ℕ) (x : Option Role) (b : Bool) (r : Option Infix) → x ≡ first_role (drop at ts) → b ≡ role_starts (first_role (drop (at + 1) ts)) → r ≡ role_sign x b → r ≡ first_sign (drop at ts)
-unfolding first_sign
-sign_at ts at x b r e f g =
-    g
-    ∙ ap (λ y. role_sign y b) e
-    ∙ ap (role_sign (first_role (drop at ts))) (f ∙ ap (λ y. role_starts (first_role y)) (ap (λ n. drop n ts) (add-one at) ∙ sym (behind_drop at ts)))
+-- a test that failed
+pub not_so : {P : Type 0} (b : Bool) → (IsTrue b ↔ P) → b ≡ false → P → ⊥
+not_so b e h p = let t : b ≡ true = e.1 p in cc
 
-pub post_at : (ts : List Sort) (at : ℕ) (x : Option Role) (b : Bool) (r : Option Post) → x ≡ first_role (drop at ts) → b ≡ role_starts (first_role (drop (at + 1) ts)) → r ≡ role_post x b → r ≡ first_post (drop at ts)
-unfolding first_post
-post_at ts at x b r e f g =
-    g
-    ∙ ap (λ y. role_post y b) e
-    ∙ ap (role_post (first_role (drop at ts))) (f ∙ ap (λ y. role_starts (first_role y)) (ap (λ n. drop n ts) (add-one at) ∙ sym (behind_drop at ts)))
-
-pub sign_none : (ts : List Sort) (at : ℕ) → length ts ≤ at → None ≡ first_sign (drop at ts)
-unfolding first_sign
-sign_none ts at h = sym (ap (λ y. role_sign (first_role y) (role_starts (first_role (behind_first y)))) (drop_of_length-le ts h))
-
-pub post_none : (ts : List Sort) (at : ℕ) → length ts ≤ at → None ≡ first_post (drop at ts)
-unfolding first_post
-post_none ts at h = sym (ap (λ y. role_post (first_role y) (role_starts (first_role (behind_first y)))) (drop_of_length-le ts h))
+-- a fault that `?` hands on
+pub handed : {T : Type 0} (P : Result T SentenceFault → Type 0) (r : Result T SentenceFault) (f : SentenceFault) → IsErr r × IsErrAnd r (λ y. y ≡ f) → P (Err f) → P r
+handed P (Ok x) f h g = absurd h.1
+handed P (Err y) f h g = subst (λ x. P (Err x)) (sym h.1) g

@@ -1,5 +1,5 @@
 -- How the parts of statements join, each against the machine. Assumes nothing.
-use Rattle.std.proofs.Common.{◌≡◌, ℕ, suc, ◌+◌, ◌<◌, ◌≤◌, Bool, true, false, List, [], ◌∷◌, ◌++◌, length, drop, Some, None, Ok, Err, Result, sym, refl, ap, ◌∙◌, subst, arith}
+use Rattle.std.proofs.Common.{◌≡◌, ℕ, ◌+◌, ◌<◌, ◌≤◌, Bool, true, false, List, [], ◌∷◌, ◌++◌, length, drop, Some, None, Ok, Err, Result, sym, refl, ap, ◌∙◌, subst, arith, drop-cons}
 use Rattle.sentence.specs.declared.sort.Sort.{Sort}
 use Rattle.sentence.specs.declared.sort.Sort.TheVariants.{Name}
 use Rattle.sentence.specs.declared.fault.SentenceFault.{SentenceFault}
@@ -7,103 +7,73 @@ use Rattle.sentence.specs.declared.fault.SentenceFault.TheVariants.{Memory, Plac
 use Rattle.sentence.specs.declared.statement.Binding as binding
 use Rattle.sentence.specs.declared.statement.Statement as statement
 use Rattle.sentence.specs.declared.placed.Placed.{Placed}
-use Rattle.sentence.specs.Trees.{Tree, Word, Mark, plain, binds, groups, checks, Sentence}
-use Rattle.sentence.specs.Looks.{first_role, role_complements, role_recs, role_ands, role_labels, role_equals, role_word, role_speech, role_name}
-use Rattle.sentence.specs.Machine.{Speech, lets, flags, words, fill, nothing, Binding, single, first, more, Owner, of_binding, of_check, State, ready, let_seen, name_due, equals_due, flag_seen, tilde_seen, label_due, operand, after, also, finish, grouped, labelling, marked, opening, told_on, feed, accept, outcome}
+use Rattle.sentence.specs.Trees.{name, Tree, Word, Mark, plain, binds, groups, checks, Sentence}
+use Rattle.sentence.specs.Looks.{first_role, StandsAt, role_speech}
+use Rattle.sentence.specs.Machine.{leaf, Speech, lets, recs, ands, flags, labels, equals, words, Role, starts, complements, speaks, fill, nothing, Binding, single, first, more, Owner, of_binding, of_check, State, ready, let_seen, name_due, equals_due, label_due, operand, after, also, onto, finish, grouped, labelling, marked, feed, accept, outcome}
 use Rattle.sentence.specs.Parsing.{Led, Faulted, Halts}
-use Rattle.sentence.specs.Statements.{trees_of, statement_of, statements_of, GoesOn, GetsStuck, Stated, GoesBound, Unbound, Binds}
+use Rattle.sentence.specs.Statements.{trees_of, statement_of, statements_of, GoesOn, GetsStuck, Stated, GoesBound, Unbound, GoesMarked, Unmarked}
 use Rattle.sentence.specs.Exprs.{tree_of}
-use Rattle.sentence.proofs.Looked.{here, no_some, no_true}
+use Rattle.sentence.proofs.Looked.{here, takes, takes_to}
 use Rattle.sentence.proofs.Climbs.{no_sign}
 use Rattle.sentence.proofs.Heard
 
--- what is said stands within the sorts
-pub name_here : (ts : List Sort) (at : ℕ) → role_name (first_role (drop at ts)) ≡ true → at < length ts
-name_here ts at e = here ts at (λ n. no_true ⊥ (sym (ap role_name n) ∙ e))
-
-pub equals_here : (ts : List Sort) (at : ℕ) → role_equals (first_role (drop at ts)) ≡ true → at < length ts
-equals_here ts at e = here ts at (λ n. no_true ⊥ (sym (ap role_equals n) ∙ e))
-
-pub ands_here : (ts : List Sort) (at : ℕ) → role_ands (first_role (drop at ts)) ≡ true → at < length ts
-ands_here ts at e = here ts at (λ n. no_true ⊥ (sym (ap role_ands n) ∙ e))
-
-pub recs_here : (ts : List Sort) (at : ℕ) → role_recs (first_role (drop at ts)) ≡ true → at < length ts
-recs_here ts at e = here ts at (λ n. no_true ⊥ (sym (ap role_recs n) ∙ e))
-
-pub labels_here : (ts : List Sort) (at : ℕ) → role_labels (first_role (drop at ts)) ≡ true → at < length ts
-labels_here ts at e = here ts at (λ n. no_true ⊥ (sym (ap role_labels n) ∙ e))
-
-pub word_here : (ts : List Sort) (at : ℕ) (w : Word) → role_word (first_role (drop at ts)) ≡ Some w → at < length ts
-word_here ts at w e = here ts at (λ n. no_some ⊥ w (sym (ap role_word n) ∙ e))
+-- some sort stands within the sorts
+there : (ts : List Sort) (at : ℕ) → at < length ts → first_role (drop at ts) ≡ None → ⊥
+there ts at h e = let z = ap first_role (drop-cons ts at Name h) in cc
 
 module _ (ts : List Sort) where
   -- a binding's name, and its sign
-  named : (at : ℕ) → role_name (first_role (drop at ts)) ≡ true → (p : Sentence) (b : Binding) → outcome (name_due p b) at (drop at ts) ≡ outcome (equals_due p b) (at + 1) (drop (at + 1) ts)
+  named : (at j : ℕ) → StandsAt ts at (starts (leaf name)) × (j ≡ at + 1) → (p : Sentence) (b : Binding) → outcome (name_due p b) at (drop at ts) ≡ outcome (equals_due p b) j (drop j ts)
   unfolding feed
-  named at e p b = Heard.heard (name_due p b) (equals_due p b) ts at (Heard.name_on at (drop at ts) (name_due p b) (equals_due p b) (λ r. refl) (first_role (drop at ts)) e)
+  named at j e p b = takes_to (name_due p b) (equals_due p b) ts at (starts (leaf name)) j e refl
 
-  equalled : (at : ℕ) → role_equals (first_role (drop (at + 1) ts)) ≡ true → (p : Sentence) (b : Binding) →
-      outcome (equals_due p b) (at + 1) (drop (at + 1) ts) ≡ outcome (operand p (of_binding b) [] nothing) (at + 2) (drop (at + 2) ts)
-  equalled at e p b =
-      let two : at + 1 + 1 ≡ at + 2 = omega arith in
-      Heard.heard (equals_due p b) (operand p (of_binding b) [] nothing) ts (at + 1) (Heard.equals_on (at + 1) (drop (at + 1) ts) p b (first_role (drop (at + 1) ts)) e)
-      ∙ ap (λ n. outcome (operand p (of_binding b) [] nothing) n (drop n ts)) two
+  equalled : (at k : ℕ) → StandsAt ts at (speaks equals) × (k ≡ at + 1) → (p : Sentence) (b : Binding) → outcome (equals_due p b) at (drop at ts) ≡ outcome (operand p (of_binding b) [] nothing) k (drop k ts)
+  unfolding feed
+  equalled at k e p b = takes_to (equals_due p b) (operand p (of_binding b) [] nothing) ts at (speaks equals) k e refl
 
   -- an expression behind what owns it
   whole : (at : ℕ) (t : Tree) (next : ℕ) → Led ts at 1 0 t next → (p : Sentence) (o : Owner) → outcome (operand p o [] nothing) at (drop at ts) ≡ outcome (after p o [] t) next (drop next ts)
   unfolding fill
   whole at t next h p o = h.leads p o [] nothing (omega arith)
 
-  pub goes_bound : (at : ℕ) (t : Tree) (next : ℕ) → role_name (first_role (drop at ts)) ≡ true → role_equals (first_role (drop (at + 1) ts)) ≡ true → Led ts (at + 2) 1 0 t next → Halts ts 1 next → GoesBound ts at t next
-  goes_bound at t next e f h stops =
+  pub goes_bound : (at j k : ℕ) (t : Tree) (next : ℕ) → StandsAt ts at (starts (leaf name)) × (j ≡ at + 1) → StandsAt ts j (speaks equals) × (k ≡ j + 1) → Led ts k 1 0 t next → Halts ts 1 next → GoesBound ts at t next
+  goes_bound at j k t next e f h stops =
       record {
-        leads = λ p b. named at e p b ∙ equalled at f p b ∙ whole (at + 2) t next h p (of_binding b);
-        past = omega (arith, h.past);
+        leads = λ p b. named at j e p b ∙ equalled j k f p b ∙ whole k t next h p (of_binding b);
+        past = omega (arith, e.1, f.1, h.past);
         within = h.within;
         halts = stops;
       }
 
-  pub unbound_name : (at : ℕ) → role_name (first_role (drop at ts)) ≡ false → (p : Sentence) (b : Binding) → outcome (name_due p b) at (drop at ts) ≡ Err at
+  pub unbound_name : (at : ℕ) (x : SentenceFault) → (¬ StandsAt ts at (starts (leaf name))) × (x ≡ Place at) → Unbound ts at x
   unfolding feed accept
-  unbound_name at e p b = Heard.unheard (name_due p b) ts at (Heard.name_off at (drop at ts) (name_due p b) (equals_due p b) refl (λ r. refl) (first_role (drop at ts)) e)
+  unbound_name at x e = subst (λ x. Unbound ts at x) (sym e.1) (λ p b. Heard.name_off ts at (name_due p b) (equals_due p b) refl (λ r. refl) e.0)
 
-  pub unbound_equals : (at : ℕ) → role_name (first_role (drop at ts)) ≡ true → role_equals (first_role (drop (at + 1) ts)) ≡ false → (p : Sentence) (b : Binding) → outcome (name_due p b) at (drop at ts) ≡ Err (at + 1)
-  unbound_equals at e f p b = named at e p b ∙ Heard.unheard (equals_due p b) ts (at + 1) (Heard.equals_off (at + 1) (drop (at + 1) ts) p b (first_role (drop (at + 1) ts)) f)
+  pub unbound_equals : (at j : ℕ) (x : SentenceFault) → StandsAt ts at (starts (leaf name)) × (j ≡ at + 1) → (¬ StandsAt ts j (speaks equals)) × (x ≡ Place j) → Unbound ts at x
+  unbound_equals at j x e f = subst (λ x. Unbound ts at x) (sym f.1) (λ p b. named at j e p b ∙ Heard.equals_off ts j p b f.0)
 
-  pub unbound_tree : (at : ℕ) (f : SentenceFault) → role_name (first_role (drop at ts)) ≡ true → role_equals (first_role (drop (at + 1) ts)) ≡ true → Faulted ts (at + 2) 1 f → Unbound ts at f
-  unbound_tree at Memory e g h = tt
-  unbound_tree at (Place k) e g h = λ p b. named at e p b ∙ equalled at g p b ∙ h p (of_binding b) [] nothing (omega arith)
-
-  pub unbound_on : (at : ℕ) (r : Result (Placed binding.Binding) SentenceFault) (y f : SentenceFault) → r ≡ Err y → y ≡ f → Unbound ts at f → Binds ts at r
-  unbound_on at r y f e same h = subst (λ x. Binds ts at x) (sym (e ∙ ap Err same)) h
+  pub unbound_tree : (at j k : ℕ) (x : SentenceFault) → StandsAt ts at (starts (leaf name)) × (j ≡ at + 1) → StandsAt ts j (speaks equals) × (k ≡ j + 1) → Faulted ts k 1 x → Unbound ts at x
+  unbound_tree at j k Memory e f h = tt
+  unbound_tree at j k (Place n) e f h = λ p b. named at j e p b ∙ equalled j k f p b ∙ h p (of_binding b) [] nothing (omega arith)
 
   -- one sort before what was stated
-  pub step_stated : (c d : Sentence → State) (at : ℕ) → ((p : Sentence) → outcome (c p) at (drop at ts) ≡ outcome (d p) (at + 1) (drop (at + 1) ts)) → (r : Result (Placed statement.Statement) SentenceFault) → Stated d ts (at + 1) r → Stated c ts at r
-  step_stated c d at e (Ok r) h = record { leads = λ p. e p ∙ h.leads p; past = omega (arith, h.past); within = h.within }
-  step_stated c d at e (Err Memory) h = tt
-  step_stated c d at e (Err (Place k)) h = λ p. e p ∙ h p
-
-  pub stuck_on : (c : Sentence → State) (at : ℕ) (r : Result (Placed statement.Statement) SentenceFault) (y f : SentenceFault) → r ≡ Err y → y ≡ f → GetsStuck c ts at f → Stated c ts at r
-  stuck_on c at r y f e same h = subst (λ x. Stated c ts at x) (sym (e ∙ ap Err same)) h
+  pub step_stated : (c d : Sentence → State) (at : ℕ) (r : Role) → StandsAt ts at r → ((p : Sentence) → feed (c p) r ≡ Some (d p)) → (x : Result (Placed statement.Statement) SentenceFault) → Stated d ts (at + 1) x → Stated c ts at x
+  step_stated c d at r e f (Ok x) h = record { leads = λ p. takes (c p) (d p) ts at r e (f p) ∙ h.leads p; past = omega (arith, h.past); within = h.within }
+  step_stated c d at r e f (Err Memory) h = tt
+  step_stated c d at r e f (Err (Place k)) h = λ p. takes (c p) (d p) ts at r e (f p) ∙ h p
 
   -- what follows `let`
-  let_single : (at : ℕ) → role_recs (first_role (drop at ts)) ≡ false → (p : Sentence) → outcome (let_seen p) at (drop at ts) ≡ outcome (name_due p single) at (drop at ts)
-  let_single at e p = Heard.looks (let_seen p) at (drop at ts) ∙ Heard.rec_off at (drop at ts) p (first_role (drop at ts)) e ∙ sym (Heard.looks (name_due p single) at (drop at ts))
-
-  pub goes_let : (at : ℕ) (t : Tree) (next : ℕ) → role_recs (first_role (drop at ts)) ≡ false → GoesBound ts at t next → GoesOn (λ p. let_seen p) ts at (binds t) next
+  pub goes_let : (at : ℕ) (t : Tree) (next : ℕ) → ¬ StandsAt ts at (speaks recs) → GoesBound ts at t next → GoesOn (λ p. let_seen p) ts at (binds t) next
   goes_let at t next e h =
       record {
-        leads = λ p. let_single at e p ∙ h.leads p single ∙ Heard.leave_on next (drop next ts) p (of_binding single) t (binds t) refl (no_sign ts next h.halts) h.halts.bare (λ k. refl) (λ k. refl);
+        leads = λ p. Heard.rec_off ts at p e ∙ h.leads p single ∙ Heard.leave_on ts next p (of_binding single) t (binds t) refl (no_sign ts next h.halts) h.halts.bare (λ k. refl) (λ k. refl);
         past = h.past;
         within = h.within;
       }
 
-  pub stuck_let : (at : ℕ) (f : SentenceFault) → role_recs (first_role (drop at ts)) ≡ false → Unbound ts at f → GetsStuck (λ p. let_seen p) ts at f
+  pub stuck_let : (at : ℕ) (f : SentenceFault) → ¬ StandsAt ts at (speaks recs) → Unbound ts at f → GetsStuck (λ p. let_seen p) ts at f
   stuck_let at Memory e h = tt
-  stuck_let at (Place k) e h = λ p. let_single at e p ∙ h p single
-
-  pub let_rec : (at : ℕ) → role_recs (first_role (drop at ts)) ≡ true → (p : Sentence) → outcome (let_seen p) at (drop at ts) ≡ outcome (name_due p first) (at + 1) (drop (at + 1) ts)
-  let_rec at e p = Heard.heard (let_seen p) (name_due p first) ts at (Heard.rec_on at (drop at ts) p (first_role (drop at ts)) e)
+  stuck_let at (Place k) e h = λ p. Heard.rec_off ts at p e ∙ h p single
 
   -- a group so far: whose its last expression is, and that it may end or go on there
   pub record Grouping (at : ℕ) (t : Tree) (us : List Tree) (next : ℕ) : Type 0 where
@@ -121,13 +91,14 @@ module _ (ts : List Sort) where
   grouping_first at t next h =
       record { owner = of_binding first; last = t; ends_so = refl; goes_so = refl; unlabelled = λ p. refl; leads = λ p. h.leads p first; past = h.past; within = h.within; halts = h.halts }
 
-  grouping_on : (at : ℕ) (t : Tree) (us : List Tree) (next : ℕ) → Grouping at t us next → role_ands (first_role (drop next ts)) ≡ true → (p : Sentence) →
+  grouping_on : (at : ℕ) (t : Tree) (us : List Tree) (next : ℕ) → Grouping at t us next → StandsAt ts next (speaks ands) → (p : Sentence) →
       outcome (name_due p first) at (drop at ts) ≡ outcome (name_due p (more t us)) (next + 1) (drop (next + 1) ts)
+  unfolding feed
   grouping_on at t us next h e p =
       h.leads p
-      ∙ Heard.heard (after p h.owner [] h.last) (name_due p (more t us)) ts next (Heard.and_on next (drop next ts) p h.owner h.last (more t us) h.goes_so (first_role (drop next ts)) e)
+      ∙ takes (after p h.owner [] h.last) (name_due p (more t us)) ts next (speaks ands) e (ap (λ x. onto x (λ b. Some (name_due p b))) h.goes_so)
 
-  pub grouping_more : (at : ℕ) (t : Tree) (us vs : List Tree) (v : Tree) (next end : ℕ) → Grouping at t us next → role_ands (first_role (drop next ts)) ≡ true → GoesBound ts (next + 1) v end → vs ≡ us ++ (v ∷ []) → Grouping at t vs end
+  pub grouping_more : (at : ℕ) (t : Tree) (us vs : List Tree) (v : Tree) (next end : ℕ) → Grouping at t us next → StandsAt ts next (speaks ands) → GoesBound ts (next + 1) v end → vs ≡ us ++ (v ∷ []) → Grouping at t vs end
   grouping_more at t us vs v next end h e b same =
       subst (λ x. Grouping at t x end) (sym same)
       (record {
@@ -142,16 +113,16 @@ module _ (ts : List Sort) where
         halts = b.halts;
       })
 
-  pub grouping_stuck : (at : ℕ) (t : Tree) (us : List Tree) (next : ℕ) (f : SentenceFault) → Grouping at t us next → role_ands (first_role (drop next ts)) ≡ true → Unbound ts (next + 1) f → GetsStuck (λ p. name_due p first) ts at f
+  pub grouping_stuck : (at : ℕ) (t : Tree) (us : List Tree) (next : ℕ) (f : SentenceFault) → Grouping at t us next → StandsAt ts next (speaks ands) → Unbound ts (next + 1) f → GetsStuck (λ p. name_due p first) ts at f
   grouping_stuck at t us next Memory h e g = tt
   grouping_stuck at t us next (Place k) h e g = λ p. grouping_on at t us next h e p ∙ g p (more t us)
 
-  pub grouping_done : (at : ℕ) (t : Tree) (us : List Tree) (next : ℕ) → Grouping at t us next → role_ands (first_role (drop next ts)) ≡ false → GoesOn (λ p. name_due p first) ts at (groups t us) next
+  pub grouping_done : (at : ℕ) (t : Tree) (us : List Tree) (next : ℕ) → Grouping at t us next → ¬ StandsAt ts next (speaks ands) → GoesOn (λ p. name_due p first) ts at (groups t us) next
   grouping_done at t us next h e =
       record {
         leads = λ p.
             h.leads p
-            ∙ Heard.leave_on next (drop next ts) p h.owner h.last (groups t us) h.ends_so (no_sign ts next h.halts) h.halts.bare (λ k. no_true _ (sym e ∙ k)) (λ k. h.unlabelled p);
+            ∙ Heard.leave_on ts next p h.owner h.last (groups t us) h.ends_so (no_sign ts next h.halts) h.halts.bare (λ k. absurd (e k)) (λ k. h.unlabelled p);
         past = h.past;
         within = h.within;
       }
@@ -160,99 +131,63 @@ module _ (ts : List Sort) where
   stuck_first at Memory h = tt
   stuck_first at (Place k) h = λ p. h p first
 
-  -- a check behind its word
-  pub claim_plain : (at : ℕ) (f n : Bool) (w : Word) (t : Tree) (next : ℕ) → f ≡ false → Led ts at 1 0 t next → Halts ts 1 next → role_labels (first_role (drop next ts)) ≡ false →
-      GoesOn (λ p. operand p (of_check f n w) [] nothing) ts at (checks plain n w t) next
-  claim_plain at f n w t next off h stops e =
-      subst (λ x. GoesOn (λ p. operand p (of_check x n w) [] nothing) ts at (checks plain n w t) next) (sym off)
+  -- a check's mark behind its expression
+  pub mark_plain : (at : ℕ) (f : Bool) → f ≡ false → at ≤ length ts → Halts ts 1 at → ¬ StandsAt ts at (speaks labels) → GoesMarked ts at f plain at
+  mark_plain at f off within stops e =
+      subst (λ x. GoesMarked ts at x plain at) (sym off)
       (record {
-        leads = λ p.
-            whole at t next h p (of_check false n w)
-            ∙ Heard.leave_on next (drop next ts) p (of_check false n w) t (checks plain n w t) refl (no_sign ts next stops) stops.bare (λ k. refl) (λ k. no_true _ (sym e ∙ k));
-        past = h.past;
-        within = h.within;
+        leads = λ p n w t. Heard.leave_on ts at p (of_check false n w) t (checks plain n w t) refl (no_sign ts at stops) stops.bare (λ k. refl) (λ k. absurd (e k));
+        past = omega arith;
+        within = within;
       })
 
-  pub claim_flag : (at : ℕ) (f n : Bool) (w : Word) (t : Tree) (next : ℕ) → f ≡ true → Led ts at 1 0 t next → Halts ts 1 next → role_labels (first_role (drop next ts)) ≡ false →
-      (p : Sentence) → outcome (operand p (of_check f n w) [] nothing) at (drop at ts) ≡ Err next
-  claim_flag at f n w t next on h stops e p =
-      ap (λ x. outcome (operand p (of_check x n w) [] nothing) at (drop at ts)) on
-      ∙ whole at t next h p (of_check true n w)
-      ∙ Heard.flag_off next (drop next ts) p n w t (no_sign ts next stops) stops.bare e
+  pub mark_flag : (at : ℕ) (f : Bool) → f ≡ true → Halts ts 1 at → ¬ StandsAt ts at (speaks labels) → Unmarked ts at f (Place at)
+  mark_flag at f on stops e = subst (λ x. Unmarked ts at x (Place at)) (sym on) (λ p n w t. Heard.flag_off ts at p n w t (no_sign ts at stops) stops.bare e)
 
-  labelled_on : (at : ℕ) (f n : Bool) (w : Word) (t : Tree) (next : ℕ) → Led ts at 1 0 t next → role_labels (first_role (drop next ts)) ≡ true → (p : Sentence) →
-      outcome (operand p (of_check f n w) [] nothing) at (drop at ts) ≡ outcome (label_due p f n w t) (next + 1) (drop (next + 1) ts)
-  labelled_on at f n w t next h e p =
-      whole at t next h p (of_check f n w)
-      ∙ Heard.heard (after p (of_check f n w) [] t) (label_due p f n w t) ts next (Heard.label_on next (drop next ts) p f n w t (first_role (drop next ts)) e)
-
-  pub claim_label : (at : ℕ) (f n : Bool) (w : Word) (t : Tree) (next : ℕ) (m : Mark) → Led ts at 1 0 t next → role_labels (first_role (drop next ts)) ≡ true → role_name (first_role (drop (next + 1) ts)) ≡ true → m ≡ marked f →
-      GoesOn (λ p. operand p (of_check f n w) [] nothing) ts at (checks m n w t) (next + 2)
+  labelled_on : (at : ℕ) (f : Bool) → StandsAt ts at (speaks labels) → (p : Sentence) (n : Bool) (w : Word) (t : Tree) → outcome (after p (of_check f n w) [] t) at (drop at ts) ≡ outcome (label_due p f n w t) (at + 1) (drop (at + 1) ts)
   unfolding feed
-  claim_label at f n w t next m h e g is =
-      let two : next + 1 + 1 ≡ next + 2 = omega arith in
-      record {
-        leads = λ p.
-            labelled_on at f n w t next h e p
-            ∙ Heard.heard (label_due p f n w t) (ready (also p (checks (marked f) n w t))) ts (next + 1)
-            (Heard.name_on (next + 1) (drop (next + 1) ts) (label_due p f n w t) (ready (also p (checks (marked f) n w t))) (λ r. refl) (first_role (drop (next + 1) ts)) g)
-            ∙ ap (λ k. outcome (ready (also p (checks (marked f) n w t))) k (drop k ts)) two
-            ∙ ap (λ x. outcome (ready (also p (checks x n w t))) (next + 2) (drop (next + 2) ts)) (sym is);
-        past = omega (arith, h.past);
-        within = omega (arith, name_here ts (next + 1) g);
-      }
+  labelled_on at f e p n w t = takes (after p (of_check f n w) [] t) (label_due p f n w t) ts at (speaks labels) e refl
 
-  pub claim_nameless : (at : ℕ) (f n : Bool) (w : Word) (t : Tree) (next : ℕ) → Led ts at 1 0 t next → role_labels (first_role (drop next ts)) ≡ true → role_name (first_role (drop (next + 1) ts)) ≡ false →
-      (p : Sentence) → outcome (operand p (of_check f n w) [] nothing) at (drop at ts) ≡ Err (next + 1)
+  pub mark_label : (at : ℕ) (f : Bool) (m : Mark) (next : ℕ) → StandsAt ts at (speaks labels) → StandsAt ts (at + 1) (starts (leaf name)) × (next ≡ at + 1 + 1) → m ≡ marked f → GoesMarked ts at f m next
+  unfolding feed
+  mark_label at f m next e g same =
+      subst (λ x. GoesMarked ts at f x next) (sym same)
+      (record {
+        leads = λ p n w t. labelled_on at f e p n w t ∙ takes_to (label_due p f n w t) (ready (also p (checks (marked f) n w t))) ts (at + 1) (starts (leaf name)) next g refl;
+        past = omega (arith, g.1);
+        within = omega (arith, g.1, here ts (at + 1) (starts (leaf name)) g.0);
+      })
+
+  pub mark_nameless : (at : ℕ) (f : Bool) (x : SentenceFault) → StandsAt ts at (speaks labels) → (¬ StandsAt ts (at + 1) (starts (leaf name))) × (x ≡ Place (at + 1)) → Unmarked ts at f x
   unfolding feed accept
-  claim_nameless at f n w t next h e g p =
-      labelled_on at f n w t next h e p
-      ∙ Heard.unheard (label_due p f n w t) ts (next + 1)
-      (Heard.name_off (next + 1) (drop (next + 1) ts) (label_due p f n w t) (ready (also p (checks (marked f) n w t))) refl (λ r. refl) (first_role (drop (next + 1) ts)) g)
+  mark_nameless at f x e g =
+      subst (λ x. Unmarked ts at f x) (sym g.1)
+      (λ p n w t. labelled_on at f e p n w t ∙ Heard.name_off ts (at + 1) (label_due p f n w t) (ready (also p (checks (marked f) n w t))) refl (λ r. refl) g.0)
 
-  -- a check before its word
-  pub denial_word : (at : ℕ) (f : Bool) (w : Word) → role_word (first_role (drop at ts)) ≡ Some w → (p : Sentence) → outcome (tilde_seen p f) at (drop at ts) ≡ outcome (operand p (of_check f true w) [] nothing) (at + 1) (drop (at + 1) ts)
-  unfolding feed
-  denial_word at f w e p = Heard.heard (tilde_seen p f) (operand p (of_check f true w) [] nothing) ts at (Heard.word_on at (drop at ts) (tilde_seen p f) p f true (λ s. refl) w (first_role (drop at ts)) e)
+  -- a check behind its word
+  pub claim_goes : (at : ℕ) (f n : Bool) (w : Word) (t : Tree) (next : ℕ) (m : Mark) (end : ℕ) → Led ts at 1 0 t next → GoesMarked ts next f m end → GoesOn (λ p. operand p (of_check f n w) [] nothing) ts at (checks m n w t) end
+  claim_goes at f n w t next m end h g = record { leads = λ p. whole at t next h p (of_check f n w) ∙ g.leads p n w t; past = omega (arith, h.past, g.past); within = g.within }
 
-  pub denial_none : (at : ℕ) (f : Bool) → role_word (first_role (drop at ts)) ≡ None → (p : Sentence) → outcome (tilde_seen p f) at (drop at ts) ≡ Err at
-  denial_none at f e p = Heard.unheard (tilde_seen p f) ts at (Heard.denial_off at (drop at ts) p f (first_role (drop at ts)) e)
+  pub claim_unmarked : (at : ℕ) (f n : Bool) (w : Word) (t : Tree) (next : ℕ) (x : SentenceFault) → Led ts at 1 0 t next → Unmarked ts next f x → GetsStuck (λ p. operand p (of_check f n w) [] nothing) ts at x
+  claim_unmarked at f n w t next Memory h g = tt
+  claim_unmarked at f n w t next (Place k) h g = λ p. whole at t next h p (of_check f n w) ∙ g p n w t
 
-  pub warning_word : (at : ℕ) (w : Word) → role_word (first_role (drop at ts)) ≡ Some w → (p : Sentence) → outcome (flag_seen p) at (drop at ts) ≡ outcome (operand p (of_check true false w) [] nothing) (at + 1) (drop (at + 1) ts)
-  unfolding feed
-  warning_word at w e p = Heard.heard (flag_seen p) (operand p (of_check true false w) [] nothing) ts at (Heard.word_on at (drop at ts) (flag_seen p) p true false (λ s. refl) w (first_role (drop at ts)) e)
+  pub claim_stuck : (at : ℕ) (f n : Bool) (w : Word) (x : SentenceFault) → Faulted ts at 1 x → GetsStuck (λ p. operand p (of_check f n w) [] nothing) ts at x
+  claim_stuck at f n w Memory h = tt
+  claim_stuck at f n w (Place k) h = λ p. h p (of_check f n w) [] nothing (omega arith)
 
-  pub warning_denied : (at : ℕ) → role_complements (first_role (drop at ts)) ≡ true → (p : Sentence) → outcome (flag_seen p) at (drop at ts) ≡ outcome (tilde_seen p true) (at + 1) (drop (at + 1) ts)
-  warning_denied at e p = Heard.heard (flag_seen p) (tilde_seen p true) ts at (Heard.warning_denied at (drop at ts) p (first_role (drop at ts)) e)
+  -- no statement begins
+  pub ready_none : (at : ℕ) → at < length ts → ¬ StandsAt ts at complements → role_speech (first_role (drop at ts)) ≡ None → (p : Sentence) → outcome (ready p) at (drop at ts) ≡ Err at
+  ready_none at h k e p = Heard.ready_off ts at p (there ts at h) k (λ x. clash lets x) (λ x. clash flags x) (λ w x. clash (words w) x)
+    where
+      clash : (s : Speech) → StandsAt ts at (speaks s) → ⊥
+      clash s x = let y = ap role_speech x in cc
 
-  pub warning_none : (at : ℕ) → role_complements (first_role (drop at ts)) ≡ false → role_word (first_role (drop at ts)) ≡ None → (p : Sentence) → outcome (flag_seen p) at (drop at ts) ≡ Err at
-  warning_none at k e p = Heard.unheard (flag_seen p) ts at (Heard.warning_off at (drop at ts) p (first_role (drop at ts)) k e)
-
-  -- a statement
-  pub ready_denied : (at : ℕ) → role_complements (first_role (drop at ts)) ≡ true → (p : Sentence) → outcome (ready p) at (drop at ts) ≡ outcome (tilde_seen p false) (at + 1) (drop (at + 1) ts)
-  ready_denied at e p = Heard.heard (ready p) (tilde_seen p false) ts at (Heard.ready_denied at (drop at ts) p (first_role (drop at ts)) e)
-
-  pub ready_lets : (at : ℕ) (s : Speech) → role_speech (first_role (drop at ts)) ≡ Some s → s ≡ lets → (p : Sentence) → outcome (ready p) at (drop at ts) ≡ outcome (let_seen p) (at + 1) (drop (at + 1) ts)
-  ready_lets at s e is p = Heard.heard (ready p) (let_seen p) ts at (Heard.ready_on at (drop at ts) p lets (first_role (drop at ts)) (e ∙ ap Some is))
-
-  pub ready_flags : (at : ℕ) (s : Speech) → role_speech (first_role (drop at ts)) ≡ Some s → s ≡ flags → (p : Sentence) → outcome (ready p) at (drop at ts) ≡ outcome (flag_seen p) (at + 1) (drop (at + 1) ts)
-  ready_flags at s e is p = Heard.heard (ready p) (flag_seen p) ts at (Heard.ready_on at (drop at ts) p flags (first_role (drop at ts)) (e ∙ ap Some is))
-
-  pub ready_words : (at : ℕ) (s : Speech) (w : Word) → role_speech (first_role (drop at ts)) ≡ Some s → s ≡ words w → (p : Sentence) → outcome (ready p) at (drop at ts) ≡ outcome (operand p (of_check false false w) [] nothing) (at + 1) (drop (at + 1) ts)
-  ready_words at s w e is p = Heard.heard (ready p) (operand p (of_check false false w) [] nothing) ts at (Heard.ready_on at (drop at ts) p (words w) (first_role (drop at ts)) (e ∙ ap Some is))
-
-  pub ready_other : (at : ℕ) (s a : Speech) → role_speech (first_role (drop at ts)) ≡ Some s → s ≡ a → ((p : Sentence) → opening p a ≡ None) → (p : Sentence) → outcome (ready p) at (drop at ts) ≡ Err at
-  ready_other at s a e is h p =
-      Heard.looks (ready p) at (drop at ts)
-      ∙ Heard.ready_on at (drop at ts) p a (first_role (drop at ts)) (e ∙ ap Some is)
-      ∙ ap (λ x. told_on x at (λ d. outcome d (suc at) (Rattle.sentence.specs.Looks.behind_first (drop at ts)))) (h p)
-
-  pub ready_none : (at : ℕ) → at < length ts → role_complements (first_role (drop at ts)) ≡ false → role_speech (first_role (drop at ts)) ≡ None → (p : Sentence) → outcome (ready p) at (drop at ts) ≡ Err at
-  ready_none at h k e p =
-      let r = Heard.there ts at Name h in
-      Heard.looks (ready p) at (drop at ts)
-      ∙ ap (Heard.look (ready p) at (drop at ts)) r.1
-      ∙ Heard.ready_off at (drop at ts) p r.0 (ap role_complements (sym r.1) ∙ k) (ap role_speech (sym r.1) ∙ e)
+  pub ready_other : (at : ℕ) (s : Speech) → StandsAt ts at (speaks s) → ¬ (s ≡ lets) → ¬ (s ≡ flags) → ((w : Word) → ¬ (s ≡ words w)) → (p : Sentence) → outcome (ready p) at (drop at ts) ≡ Err at
+  ready_other at s e l f w p = Heard.ready_off ts at p (λ x. let no : ⊥ = cc in no) (λ x. let no : ⊥ = cc in no) (λ x. l (same lets x)) (λ x. f (same flags x)) (λ v x. w v (same (words v) x))
+    where
+      same : (a : Speech) → StandsAt ts at (speaks a) → s ≡ a
+      same a x = cc
 
 -- one binding more, one statement more
 pub trees_last : (bs : List binding.Binding) (b : binding.Binding) → trees_of (bs ++ (b ∷ [])) ≡ trees_of bs ++ (tree_of b.tree ∷ [])

@@ -1,18 +1,20 @@
 -- A text is read statement by statement. Assumes nothing.
-use Rattle.std.proofs.Common.{◌≡◌, ℕ, ◌≤◌, Bool, true, false, cond, List, [], ◌∷◌, ◌++◌, length, drop, Ok, Err, Result, sym, ap, ◌∙◌, subst, arith, drop_of_length-le}
+use Rattle.std.proofs.Common.{◌≡◌, ℕ, ◌≤◌, Bool, true, false, List, [], ◌∷◌, ◌++◌, length, drop, Ok, Err, sym, refl, ap, ◌∙◌, subst, arith, drop_of_length-le}
+use Rattle.std.specs.Int.{from_bool}
+use Rattle.std.specs.Prelude.{◌↔◌, IsTrue}
 use Rattle.sentence.specs.declared.sort.Sort.{Sort}
 use Rattle.sentence.specs.declared.fault.SentenceFault.{SentenceFault}
 use Rattle.sentence.specs.declared.fault.SentenceFault.TheVariants.{Memory, Place}
 use Rattle.sentence.specs.declared.statement.Statement as statement
-use Rattle.sentence.specs.declared.statement.Sentence as sentence
 use Rattle.sentence.specs.Trees.{Sentence}
 use Rattle.sentence.specs.Texts.{Writes}
-use Rattle.sentence.specs.Looks.{first_role, role_titles}
-use Rattle.sentence.specs.Machine.{begun, ready, blank, accept, outcome}
+use Rattle.sentence.specs.Looks.{StandsAt}
+use Rattle.sentence.specs.Machine.{titles, speaks, begun, ready, blank, feed, accept, outcome}
 use Rattle.sentence.specs.Statements.{GoesOn, GetsStuck, statement_of, statements_of}
 use Rattle.sentence.specs.Laws.{Tells}
 use Rattle.sentence.specs.Reading.{ReadAs}
-use Rattle.sentence.proofs.Looked.{here, no_true}
+use Rattle.sentence.proofs.Looked.{here, takes}
+use Rattle.sentence.proofs.Looking.{not_so}
 use Rattle.sentence.proofs.Heard
 use Rattle.sentence.proofs.Phrases.{statements_last}
 use Rattle.sentence.proofs.Refusals.{machine_told}
@@ -27,26 +29,19 @@ pub record ReadingOn (ts : List Sort) (b : Bool) (ss : List statement.Statement)
   pub within : at ≤ length ts
 
 -- at first, behind a title or without one
-reading_titled : (ts : List Sort) → role_titles (first_role ts) ≡ true → ReadingOn ts true [] 1
-reading_titled ts e =
-    record {
-      leads = Heard.heard begun (ready (blank true)) ts 0 (Heard.title_on 0 ts (first_role ts) e);
-      within = omega (arith, here ts 0 (λ n. no_true ⊥ (sym (ap role_titles n) ∙ e)));
-    }
+reading_titled : (ts : List Sort) → StandsAt ts 0 (speaks titles) → ReadingOn ts true [] 1
+unfolding feed
+reading_titled ts e = record { leads = takes begun (ready (blank true)) ts 0 (speaks titles) e refl; within = omega (arith, here ts 0 (speaks titles) e) }
 
-reading_plain : (ts : List Sort) → role_titles (first_role ts) ≡ false → ReadingOn ts false [] 0
-reading_plain ts e =
-    record {
-      leads = Heard.looks begun 0 ts ∙ Heard.title_off 0 ts (first_role ts) e ∙ sym (Heard.looks (ready (blank false)) 0 ts);
-      within = omega arith;
-    }
+reading_plain : (ts : List Sort) → ¬ StandsAt ts 0 (speaks titles) → ReadingOn ts false [] 0
+reading_plain ts e = record { leads = Heard.title_off ts 0 e; within = omega arith }
 
-pub reading_first : (ts : List Sort) (b : Bool) (ss : List statement.Statement) (at : ℕ) → b ≡ role_titles (first_role (drop 0 ts)) → at ≡ cond b 1 0 → ss ≡ [] → ReadingOn ts b ss at
-reading_first ts b ss at e is none = subst (λ x. ReadingOn ts b x at) (sym none) (subst (λ k. ReadingOn ts b [] k) (sym is) (go b (sym e)))
+pub reading_first : (ts : List Sort) (b : Bool) (ss : List statement.Statement) (at : ℕ) → (IsTrue b ↔ StandsAt ts 0 (speaks titles)) → at ≡ from_bool b → ss ≡ [] → ReadingOn ts b ss at
+reading_first ts b ss at e is none = subst (λ x. ReadingOn ts b x at) (sym none) (subst (λ k. ReadingOn ts b [] k) (sym is) (go b e))
   where
-    go : (b : Bool) → role_titles (first_role (drop 0 ts)) ≡ b → ReadingOn ts b [] (cond b 1 0)
-    go true e = reading_titled ts e
-    go false e = reading_plain ts e
+    go : (b : Bool) → (IsTrue b ↔ StandsAt ts 0 (speaks titles)) → ReadingOn ts b [] (from_bool b)
+    go true e = reading_titled ts (e.0 refl)
+    go false e = reading_plain ts (not_so false e refl)
 
 -- one statement more
 pub reading_more : (ts : List Sort) (b : Bool) (ss rs : List statement.Statement) (s : statement.Statement) (at next : ℕ) → ReadingOn ts b ss at → GoesOn (λ p. ready p) ts at (statement_of s) next → rs ≡ ss ++ (s ∷ []) → ReadingOn ts b rs next
@@ -65,9 +60,6 @@ reading_done ts b ss at h past =
     subst (λ r. Tells ts r) e (machine_told ts)
 
 -- a statement is at fault
-pub reading_stuck : (ts : List Sort) (b : Bool) (ss : List statement.Statement) (at : ℕ) (r : Result sentence.Sentence SentenceFault) (y f : SentenceFault) → r ≡ Err y → y ≡ f → ReadingOn ts b ss at → GetsStuck (λ p. ready p) ts at f → ReadAs ts r
-reading_stuck ts b ss at r y f e same h g = subst (λ x. ReadAs ts x) (sym (e ∙ ap Err same)) (go f g)
-  where
-    go : (f : SentenceFault) → GetsStuck (λ p. ready p) ts at f → ReadAs ts (Err f)
-    go Memory g = tt
-    go (Place k) g = subst (λ r. Tells ts r) (h.leads ∙ g (so_far b ss)) (machine_told ts)
+pub reading_stuck : (ts : List Sort) (b : Bool) (ss : List statement.Statement) (at : ℕ) (f : SentenceFault) → ReadingOn ts b ss at → GetsStuck (λ p. ready p) ts at f → ReadAs ts (Err f)
+reading_stuck ts b ss at Memory h g = tt
+reading_stuck ts b ss at (Place k) h g = subst (λ r. Tells ts r) (h.leads ∙ g (so_far b ss)) (machine_told ts)

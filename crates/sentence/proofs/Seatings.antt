@@ -1,13 +1,10 @@
 -- The places of leaves in an expression that is put together. Assumes nothing.
-use Rattle.std.proofs.Common.{◌≡◌, ℕ, suc, ◌+◌, Bool, true, false, cond, List, [], ◌∷◌, ◌++◌, length, Err, Result, sym, refl, ap, ◌∙◌, subst, append-nil, add-zero, add-one, arith, length-append}
+use Rattle.std.proofs.Common.{◌≡◌, ℕ, suc, ◌+◌, Bool, true, false, cond, List, [], ◌∷◌, ◌++◌, length, sym, refl, ap, ◌∙◌, subst, append-nil, add-zero, add-one, arith, length-append}
 use Rattle.sentence.specs.declared.sort.Sort.{Sort}
 use Rattle.sentence.specs.declared.sort.Sort.TheVariants.{Tilde}
-use Rattle.sentence.specs.declared.fault.SentenceFault.{SentenceFault}
-use Rattle.sentence.specs.declared.placed.Placed.{Placed}
-use Rattle.sentence.specs.declared.tree.Expr.{Expr}
 use Rattle.sentence.specs.Trees.{Leaf, name, universe, no_pairs, no_events, Bracket, round, square, Post, plus, closure, question, inverse, Infix, bar, semicolon, backslash, ampersand, product, Tree, atom, inside, tilde, ended, joined, open_sort, close_sort, post_sort, infix_sort, spell}
 use Rattle.sentence.specs.Roles.{role}
-use Rattle.sentence.specs.Seats.{leaf_role, places, Seated, SeatedAs}
+use Rattle.sentence.specs.Seats.{leaf_role, places, Seated}
 
 -- a sort that is no leaf
 places_skip : (i : ℕ) (s : Sort) (ts : List Sort) → leaf_role (role s) ≡ false → places i (s ∷ ts) ≡ places (suc i) ts
@@ -90,7 +87,3 @@ seated_joined at i t r u ks js ls next end h g is same =
           ∙ ap (λ x. places at (spell t) ++ x) (g.seats ∙ ap (λ n. places n (spell r)) from ∙ sym (places_skip (at + length (spell t)) (infix_sort i) (spell r) (infix_no_leaf i)))
           ∙ sym (places_append at (spell t) (infix_sort i ∷ spell r));
     })
-
--- a fault has no places
-pub seated_fault : (at : ℕ) (r : Result (Placed Expr) SentenceFault) (y : SentenceFault) → r ≡ Err y → SeatedAs at r
-seated_fault at r y e = subst (λ x. SeatedAs at x) (sym e) tt

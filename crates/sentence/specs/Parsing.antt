@@ -1,13 +1,13 @@
 -- What the parser of expressions promises, against the machine; inner. Assumes nothing.
-use Rattle.std.specs.Prelude.{◌≡◌, ℕ, ◌<◌, ◌≤◌, false, List, length, drop, Some, None, Ok, Err, Result}
+use Rattle.std.specs.Prelude.{◌≡◌, ℕ, ◌<◌, ◌≤◌, List, length, drop, Some, None, Ok, Err, Result}
 use Rattle.sentence.specs.declared.sort.Sort.{Sort}
 use Rattle.sentence.specs.declared.fault.SentenceFault.{SentenceFault}
 use Rattle.sentence.specs.declared.fault.SentenceFault.TheVariants.{Memory, Place}
 use Rattle.sentence.specs.declared.placed.Placed.{Placed}
 use Rattle.sentence.specs.declared.tree.Expr.{Expr}
-use Rattle.sentence.specs.Roles.{opens}
+use Rattle.sentence.specs.Roles.{opens, starts, complements}
 use Rattle.sentence.specs.Trees.{Tree, Bracket, Infix, rank, level, Sentence}
-use Rattle.sentence.specs.Looks.{first_role, role_complements, role_start, first_sign, first_post}
+use Rattle.sentence.specs.Looks.{StandsAt, sign_at, post_at}
 use Rattle.sentence.specs.Machine.{Owner, Frame, Wait, asked, fill, operand, after, outcome}
 use Rattle.sentence.specs.Exprs.{tree_of}
 
@@ -34,8 +34,8 @@ Parsed ts at n m (Err f) = Faulted ts at n f
 
 -- what follows goes on with no sign behind and no infix sign as tight as n
 pub record Halts (ts : List Sort) (n next : ℕ) : Type 0 where
-  pub loose : (i : Infix) → first_sign (drop next ts) ≡ Some i → rank i < n
-  pub bare : first_post (drop next ts) ≡ None
+  pub loose : (i : Infix) → sign_at ts next ≡ Some i → rank i < n
+  pub bare : post_at ts next ≡ None
 
 abbrev pub Halted : List Sort → ℕ → Result (Placed Expr) SentenceFault → Type 0
 Halted ts n (Ok r) = Halts ts n r.next
@@ -43,8 +43,8 @@ Halted ts n (Err f) = Unit {0}
 
 -- no prefix stands there
 abbrev pub Unprefixed : List Sort → ℕ → Type 0
-Unprefixed ts at = role_complements (first_role (drop at ts)) ≡ false
+Unprefixed ts at = ¬ StandsAt ts at complements
 
 -- this bracket opens there
 abbrev pub Opened : List Sort → ℕ → Bracket → Type 0
-Opened ts at b = role_start (first_role (drop at ts)) ≡ Some (opens b)
+Opened ts at b = StandsAt ts at (starts (opens b))

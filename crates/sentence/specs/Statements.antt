@@ -1,5 +1,5 @@
 -- Statements of the program as those of the grammar, and what their parser promises against the machine; inner. Assumes nothing.
-use Rattle.std.specs.Prelude.{◌≡◌, ℕ, ◌<◌, ◌≤◌, List, [], ◌∷◌, length, drop, Ok, Err, vec_items, Result}
+use Rattle.std.specs.Prelude.{◌≡◌, ℕ, ◌<◌, ◌≤◌, Bool, List, [], ◌∷◌, length, drop, Ok, Err, vec_items, Result}
 use Rattle.sentence.specs.declared.sort.Sort.{Sort}
 use Rattle.sentence.specs.declared.fault.SentenceFault.{SentenceFault}
 use Rattle.sentence.specs.declared.fault.SentenceFault.TheVariants.{Memory, Place}
@@ -10,8 +10,8 @@ use Rattle.sentence.specs.declared.statement.Statement as statement
 use Rattle.sentence.specs.declared.statement.Statement.TheVariants.{Let, Group, Check}
 use Rattle.sentence.specs.declared.statement.Sentence as sentence
 use Rattle.sentence.specs.declared.placed.Placed.{Placed}
-use Rattle.sentence.specs.Trees.{Tree, Mark, plain, labelled, flagged, Statement, binds, groups, checks, Sentence}
-use Rattle.sentence.specs.Machine.{Binding, of_binding, State, ready, name_due, after, also, outcome}
+use Rattle.sentence.specs.Trees.{Tree, Word, Mark, plain, labelled, flagged, Statement, binds, groups, checks, Sentence}
+use Rattle.sentence.specs.Machine.{Binding, of_binding, of_check, State, ready, name_due, after, also, outcome}
 use Rattle.sentence.specs.Parsing.{Halts}
 use Rattle.sentence.specs.Exprs.{tree_of}
 
@@ -65,3 +65,17 @@ Unbound ts at (Place k) = (p : Sentence) (b : Binding) → outcome (name_due p b
 abbrev pub Binds : List Sort → ℕ → Result (Placed binding.Binding) SentenceFault → Type 0
 Binds ts at (Ok r) = GoesBound ts at (tree_of r.item.tree) r.next
 Binds ts at (Err f) = Unbound ts at f
+
+-- the mark of a check behind its expression, whichever check it is
+pub record GoesMarked (ts : List Sort) (at : ℕ) (f : Bool) (m : Mark) (next : ℕ) : Type 0 where
+  pub leads : (p : Sentence) (n : Bool) (w : Word) (t : Tree) → outcome (after p (of_check f n w) [] t) at (drop at ts) ≡ outcome (ready (also p (checks m n w t))) next (drop next ts)
+  pub past : at ≤ next
+  pub within : next ≤ length ts
+
+abbrev pub Unmarked : List Sort → ℕ → Bool → SentenceFault → Type 0
+Unmarked ts at f Memory = Unit {0}
+Unmarked ts at f (Place k) = (p : Sentence) (n : Bool) (w : Word) (t : Tree) → outcome (after p (of_check f n w) [] t) at (drop at ts) ≡ Err k
+
+abbrev pub Marks : List Sort → ℕ → Bool → Result (Placed mark.Mark) SentenceFault → Type 0
+Marks ts at f (Ok r) = GoesMarked ts at f (mark_of r.item) r.next
+Marks ts at f (Err e) = Unmarked ts at f e

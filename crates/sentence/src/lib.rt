@@ -3,8 +3,8 @@
 
 pub mod fault;
 pub mod law;
-pub mod look;
 pub mod parse;
+pub mod parser;
 pub mod phrase;
 pub mod placed;
 pub mod role;

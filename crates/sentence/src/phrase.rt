@@ -1,69 +1,17 @@
 //! Reading statements.
-ghost use Rattle.std.specs.Prelude.{◌≡◌, ◌<◌, [], length};
+ghost use Rattle.std.specs.Prelude.{◌≡◌, ◌+◌, ◌<◌, ◌≤◌, [], length, IfOk, IfErr};
+ghost use Rattle.sentence.specs.declared.fault.SentenceFault.TheVariants.{Place};
+ghost use Rattle.sentence.specs.Looks.{StandsAt};
 ghost use Rattle.sentence.specs.Machine.{ready, let_seen, name_due, flag_seen, tilde_seen, operand, nothing, of_check, first, marked};
-ghost use Rattle.sentence.specs.Statements.{Stated, Binds, mark_of};
+ghost use Rattle.sentence.specs.Parsing.{Halts};
+ghost use Rattle.sentence.specs.Statements.{Stated, Binds, Marks, mark_of};
 
 use super::fault::SentenceFault;
-use super::look::*;
-use super::parse::ladder;
+use super::parser::Parser;
 use super::placed::Placed;
-use super::role::Speech;
-use super::sign::Word;
-use super::sort::Sort;
+use super::role::*;
+use super::sign::*;
 use super::statement::*;
-use std::alloc::Global;
-
-/// A binding: a name, `=` and an expression.
-fn binding(heap: Global, sorts: &[Sort], at: usize) -> Result<Placed<Binding>, SentenceFault>
-    ensures { Binds sorts.now at result }
-{
-    if !name_at(sorts, at) {
-        return Err(SentenceFault::Place(at));
-    }
-    if !equals_at(sorts, at + 1) {
-        return Err(SentenceFault::Place(at + 1));
-    }
-    let piece = ladder(heap, sorts, at + 2, 1)?;
-    Ok(Placed {
-        item: Binding {
-            name: at,
-            tree: piece.item,
-        },
-        next: piece.next,
-    })
-}
-
-/// The bindings of a group, behind `let rec`.
-fn group(heap: Global, sorts: &[Sort], at: usize) -> Result<Placed<Statement>, SentenceFault>
-    ensures { Stated (λ p. name_due p first) sorts.now at result }
-{
-    let head = binding(heap, sorts, at)?;
-    let mut more: Vec<Binding> = Vec::new(heap);
-    let mut next = head.next;
-    while and_at(sorts, next) {
-        let bound = binding(heap, sorts, next + 1)?;
-        more.push(bound.item)?;
-        next = bound.next;
-    }
-    Ok(Placed {
-        item: Statement::Group(head.item, more),
-        next,
-    })
-}
-
-/// What follows `let`.
-fn binds(heap: Global, sorts: &[Sort], at: usize) -> Result<Placed<Statement>, SentenceFault>
-    ensures { Stated (λ p. let_seen p) sorts.now at result }
-{
-    if rec_at(sorts, at) {
-        return group(heap, sorts, at + 1);
-    }
-    let bound = binding(heap, sorts, at)?;
-    Ok(Placed {
-        item: Statement::Let(bound.item),
-        next: bound.next,
-    })
-}
 
 /// The mark of a check with its label at a place.
 fn labelled(flag: bool, at: usize) -> Mark
@@ -76,98 +24,151 @@ fn labelled(flag: bool, at: usize) -> Mark
     }
 }
 
-/// What follows the word of a check.
-fn claim(
-    heap: Global,
-    sorts: &[Sort],
-    at: usize,
-    flag: bool,
-    negated: bool,
-    word: Word,
-) -> Result<Placed<Statement>, SentenceFault>
-    ensures { Stated (λ p. operand p (of_check flag negated word) [] nothing) sorts.now at result }
-{
-    let piece = ladder(heap, sorts, at, 1)?;
-    if label_at(sorts, piece.next) {
-        if name_at(sorts, piece.next + 1) {
-            let mark = labelled(flag, piece.next + 1);
-            return Ok(Placed {
-                item: Statement::Check(Check {
-                    mark,
-                    negated,
-                    word,
-                    tree: piece.item,
-                }),
-                next: piece.next + 2,
-            });
+impl<'a> Parser<'a> {
+    /// The place behind a sort of this role, which has to stand at a place.
+    fn behind(self, at: usize, role: Role) -> Result<usize, SentenceFault>
+        ensures stands { IfOk result (λ k. StandsAt self.entry.sorts.now at role × (k ≡ at + 1)) }
+        ensures lacks { IfErr result (λ f. (¬ StandsAt self.entry.sorts.now at role) × (f ≡ Place at)) }
+    {
+        if self.stands(at, role) {
+            Ok(at + 1)
+        } else {
+            Err(SentenceFault::Place(at))
         }
-        return Err(SentenceFault::Place(piece.next + 1));
     }
-    if flag {
-        return Err(SentenceFault::Place(piece.next));
-    }
-    Ok(Placed {
-        item: Statement::Check(Check {
-            mark: Mark::Plain,
-            negated,
-            word,
-            tree: piece.item,
-        }),
-        next: piece.next,
-    })
-}
 
-/// What follows the `~` of a check.
-fn denial(
-    heap: Global,
-    sorts: &[Sort],
-    at: usize,
-    flag: bool,
-) -> Result<Placed<Statement>, SentenceFault>
-    ensures { Stated (λ p. tilde_seen p flag) sorts.now at result }
-{
-    let Some(word) = word_at(sorts, at) else {
-        return Err(SentenceFault::Place(at));
-    };
-    claim(heap, sorts, at + 1, flag, true, word)
-}
-
-/// What follows `flag`.
-fn warning(heap: Global, sorts: &[Sort], at: usize) -> Result<Placed<Statement>, SentenceFault>
-    ensures { Stated (λ p. flag_seen p) sorts.now at result }
-{
-    if complements_at(sorts, at) {
-        return denial(heap, sorts, at + 1, true);
+    /// A binding: a name, `=` and an expression.
+    fn binding(self, at: usize) -> Result<Placed<Binding>, SentenceFault>
+        ensures { Binds self.entry.sorts.now at result }
+    {
+        let equals = self.behind(at, Role::Starts(Start::Leaf(Leaf::Name)))?;
+        let start = self.behind(equals, Role::Speaks(Speech::Equals))?;
+        let piece = self.ladder(start, 1)?;
+        Ok(Placed {
+            item: Binding {
+                name: at,
+                tree: piece.item,
+            },
+            next: piece.next,
+        })
     }
-    let Some(word) = word_at(sorts, at) else {
-        return Err(SentenceFault::Place(at));
-    };
-    claim(heap, sorts, at + 1, true, false, word)
-}
 
-/// A statement.
-pub(crate) fn statement(
-    heap: Global,
-    sorts: &[Sort],
-    at: usize,
-) -> Result<Placed<Statement>, SentenceFault>
-    requires { at < length sorts.now }
-    ensures { Stated (λ p. ready p) sorts.now at result }
-{
-    if complements_at(sorts, at) {
-        return denial(heap, sorts, at + 1, false);
+    /// The bindings of a group, behind `let rec`.
+    fn group(self, at: usize) -> Result<Placed<Statement>, SentenceFault>
+        ensures { Stated (λ p. name_due p first) self.entry.sorts.now at result }
+    {
+        let head = self.binding(at)?;
+        let mut more: Vec<Binding> = Vec::new(self.heap);
+        let mut next = head.next;
+        while self.stands(next, Role::Speaks(Speech::Ands)) {
+            let bound = self.binding(next + 1)?;
+            more.push(bound.item)?;
+            next = bound.next;
+        }
+        Ok(Placed {
+            item: Statement::Group(head.item, more),
+            next,
+        })
     }
-    let Some(speech) = speech_at(sorts, at) else {
-        return Err(SentenceFault::Place(at));
-    };
-    match speech {
-        Speech::Lets => binds(heap, sorts, at + 1),
-        Speech::Flags => warning(heap, sorts, at + 1),
-        Speech::Words(word) => claim(heap, sorts, at + 1, false, false, word),
-        Speech::Titles => Err(SentenceFault::Place(at)),
-        Speech::Recs => Err(SentenceFault::Place(at)),
-        Speech::Ands => Err(SentenceFault::Place(at)),
-        Speech::Labels => Err(SentenceFault::Place(at)),
-        Speech::Equals => Err(SentenceFault::Place(at)),
+
+    /// What follows `let`.
+    fn binds(self, at: usize) -> Result<Placed<Statement>, SentenceFault>
+        ensures { Stated (λ p. let_seen p) self.entry.sorts.now at result }
+    {
+        if self.stands(at, Role::Speaks(Speech::Recs)) {
+            return self.group(at + 1);
+        }
+        let bound = self.binding(at)?;
+        Ok(Placed {
+            item: Statement::Let(bound.item),
+            next: bound.next,
+        })
+    }
+
+    /// The mark of a check, behind its expression: its label, which a flag needs.
+    fn mark(self, at: usize, flag: bool) -> Result<Placed<Mark>, SentenceFault>
+        requires within { at ≤ length self.sorts.now }
+        requires halts { Halts self.sorts.now 1 at }
+        ensures { Marks self.entry.sorts.now at flag result }
+    {
+        if self.stands(at, Role::Speaks(Speech::Labels)) {
+            let next = self.behind(at + 1, Role::Starts(Start::Leaf(Leaf::Name)))?;
+            Ok(Placed {
+                item: labelled(flag, at + 1),
+                next,
+            })
+        } else if flag {
+            Err(SentenceFault::Place(at))
+        } else {
+            Ok(Placed {
+                item: Mark::Plain,
+                next: at,
+            })
+        }
+    }
+
+    /// What follows the word of a check.
+    fn claim(
+        self,
+        at: usize,
+        flag: bool,
+        negated: bool,
+        word: Word,
+    ) -> Result<Placed<Statement>, SentenceFault>
+        ensures { Stated (λ p. operand p (of_check flag negated word) [] nothing) self.entry.sorts.now at result }
+    {
+        let piece = self.ladder(at, 1)?;
+        let mark = self.mark(piece.next, flag)?;
+        Ok(Placed {
+            item: Statement::Check(Check {
+                mark: mark.item,
+                negated,
+                word,
+                tree: piece.item,
+            }),
+            next: mark.next,
+        })
+    }
+
+    /// What follows the `~` of a check.
+    fn denial(self, at: usize, flag: bool) -> Result<Placed<Statement>, SentenceFault>
+        ensures { Stated (λ p. tilde_seen p flag) self.entry.sorts.now at result }
+    {
+        let Some(word) = self.word_at(at) else {
+            return Err(SentenceFault::Place(at));
+        };
+        self.claim(at + 1, flag, true, word)
+    }
+
+    /// What follows `flag`.
+    fn warning(self, at: usize) -> Result<Placed<Statement>, SentenceFault>
+        ensures { Stated (λ p. flag_seen p) self.entry.sorts.now at result }
+    {
+        if self.stands(at, Role::Complements) {
+            return self.denial(at + 1, true);
+        }
+        let Some(word) = self.word_at(at) else {
+            return Err(SentenceFault::Place(at));
+        };
+        self.claim(at + 1, true, false, word)
+    }
+
+    /// A statement.
+    pub(crate) fn statement(self, at: usize) -> Result<Placed<Statement>, SentenceFault>
+        requires { at < length self.sorts.now }
+        ensures { Stated (λ p. ready p) self.entry.sorts.now at result }
+    {
+        if self.stands(at, Role::Complements) {
+            return self.denial(at + 1, false);
+        }
+        let Some(speech) = self.speech_at(at) else {
+            return Err(SentenceFault::Place(at));
+        };
+        match speech {
+            Speech::Lets => self.binds(at + 1),
+            Speech::Flags => self.warning(at + 1),
+            Speech::Words(word) => self.claim(at + 1, false, false, word),
+            _ => Err(SentenceFault::Place(at)),
+        }
     }
 }

@@ -6,14 +6,14 @@ use super::sign::*;
 use super::sort::Sort;
 
 /// What begins an atom.
-#[derive(Clone, Copy)]
+#[derive(Clone, Copy, PartialEq, Eq, Debug)]
 pub enum Start {
     Leaf(Leaf),
     Opens(Bracket),
 }
 
 /// What goes on behind an expression.
-#[derive(Clone, Copy)]
+#[derive(Clone, Copy, PartialEq, Eq, Debug)]
 pub enum Go {
     Closes(Bracket),
     Joins(Infix),
@@ -21,7 +21,7 @@ pub enum Go {
 }
 
 /// What is a word of statements.
-#[derive(Clone, Copy)]
+#[derive(Clone, Copy, PartialEq, Eq, Debug)]
 pub enum Speech {
     Titles,
     Lets,
@@ -34,7 +34,7 @@ pub enum Speech {
 }
 
 /// The role of a sort.
-#[derive(Clone, Copy)]
+#[derive(Clone, Copy, PartialEq, Eq, Debug)]
 pub enum Role {
     Starts(Start),
     Goes(Go),

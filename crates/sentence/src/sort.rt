@@ -1,7 +1,7 @@
 //! Sorts of tokens: what stands somewhere, names and titles without their bytes.
 
 /// The sort of a token.
-#[derive(Clone, Copy)]
+#[derive(Clone, Copy, PartialEq, Eq, Debug)]
 pub enum Sort {
     Name,
     Title,

@@ -1,0 +1,27 @@
+use Rattle.std.proofs.Common.{◌<◌, length, refl, rules}
+use Rattle.sentence.specs.Machine.{recs, speaks, let_seen, name_due, first, feed}
+use Rattle.sentence.specs.Exprs.{tree_of}
+use Rattle.sentence.specs.Statements.{Stated}
+use Rattle.sentence.proofs.Looking.{not_so, handed}
+use Rattle.sentence.proofs.Looked.{here}
+use Rattle.sentence.proofs.Phrases.{goes_let, stuck_let, step_stated}
+use Rattle.sentence.proofs.parser.Parser.binds.Goals as goal
+
+pub overflow_add-at : goal.overflow_add-at
+overflow_add-at c =
+    let h : c.args.at < length c.args.self.sorts.now = here c.args.self.sorts.now c.args.at (speaks recs) (c.stands.ensures.0 c.if-stands.true) in
+    search rules
+
+pub returns-then-stands : goal.returns-then-stands
+unfolding feed
+returns-then-stands c =
+    step_stated c.args.self.sorts.now (λ p. let_seen p) (λ p. name_due p first) c.args.at (speaks recs) (c.stands.ensures.0 c.if-stands.true) (λ p. refl) c.group.result c.group.ensures
+
+pub returns-in_err-bound : goal.returns-in_err-bound
+returns-in_err-bound c =
+    handed (Stated (λ p. let_seen p) c.args.self.sorts.now c.args.at) c.from_residual.result c.in_err-bound.field-0.0 c.from_residual.ensures
+    (stuck_let c.args.self.sorts.now c.args.at c.in_err-bound.field-0.0 (not_so _ c.stands.ensures c.if-stands.false) c.in_err-bound.ensures)
+
+pub returns : goal.returns
+returns c =
+    goes_let c.args.self.sorts.now c.args.at (tree_of c.in_ok-bound.bound.item.tree) c.in_ok-bound.bound.next (not_so _ c.stands.ensures c.if-stands.false) c.in_ok-bound.ensures
