@@ -1,5 +1,6 @@
 pub mod Events
 pub mod Runs
+pub mod Masks
 pub mod Numbers
 pub mod Rules
 pub mod Tests

@@ -1,6 +1,8 @@
 //! A snapshot: the events of a run, read from a source once.
 ghost use Rattle.std.specs.Prelude.{◌≡◌, ℕ, ◌<◌, true};
+ghost use Rattle.std.specs.Fn.{FnReturnsAt};
 ghost use Rattle.run.specs.Runs.{Run, shown, nothing};
+ghost use Rattle.run.specs.Masks.{Gathered};
 ghost use Rattle.run.specs.Tests.{table_run, holds, linked, some_linked, misplaced, broken, faulty, Lowest};
 
 use super::event::Event;
@@ -102,5 +104,19 @@ impl Snapshot {
             }
         }
         None
+    }
+
+    /// The numbers of the events that pass a test, as a mask: bit n for the event at n.
+    pub fn gather<F: Fn(&Event) -> bool>(&self, test: F) -> u32
+        requires { F.IsAlwaysCallable test }
+        ensures { Gathered (FnReturnsAt F.Fn test) (table_run self.now.events) result }
+    {
+        let mut mask = 0;
+        for (n, event) in self.events.iter().enumerate() {
+            if event.is_some_and(|found| test(&found)) {
+                mask |= 1 << n;
+            }
+        }
+        mask
     }
 }
