@@ -1,8 +1,11 @@
 -- How many things have a property: the laws of counting. Assumes nothing.
-use Rattle.std.proofs.Common.{◌≡◌, ℕ, zero, suc, ◌+◌, ◌<◌, ◌≤◌, Bool, true, false, cond, ◌⊎◌, [], ◌∷◌, map, sym, refl, ap, ◌∙◌, subst, inl, inr, ⊎_elim, zero-le, le_of_suc-le-suc, not-suc-le-zero, le_antisymm, eq-or-lt_of_le, add-one, arith}
+use Rattle.std.proofs.Common.{◌≡◌, ℕ, zero, suc, ◌+◌, ◌<◌, ◌≤◌, Bool, true, false, cond, ◌⊎◌, List, [], ◌∷◌, length, take, map, sym, refl, ap, ◌∙◌, subst, inl, inr, ⊎_elim, zero-le, le_of_suc-le-suc, not-suc-le-zero, le_antisymm, eq-or-lt_of_le, add-one, arith}
 use borrow.Author.Tests.{clash}
 use lib.ListN.{length-map}
-use Rattle.finite.specs.Counts.{Counts, Below, count_below}
+use Rattle.std.specs.List.{count_by}
+use Rattle.std.proofs.lemmas.List.{take_all}
+use Rattle.std.proofs.lemmas.List.Sums.{count_by_more_yes, count_by_more_no}
+use Rattle.finite.specs.Counts.{Counts, Below, count_below, flag_at, SetFlags}
 use Rattle.finite.proofs.Lists.{placed, first, no_longer, in_map, in_map_from, apart_map}
 
 module _ {A : Type 0} {P Q : A → Type 0} where
@@ -99,3 +102,21 @@ count_computed p (suc n) = count_next p n (count_below p n) (p n) refl (count_co
 -- A loop that has come to the bound has the count.
 pub count_done : (p : ℕ → Bool) (i n : ℕ) {r : ℕ} → i ≡ n → r ≡ count_below p i → Counts (Below p n) r
 count_done p i n e h = rw (h, e) (count_computed p n)
+
+module _ (flags : List Bool) where
+  -- One flag more is counted alike in the list and among the numbers.
+  count_alike_more : (n : ℕ) (b : Bool) → n < length flags → flag_at flags n ≡ b → count_by (λ x. x) (take n flags) ≡ count_below (flag_at flags) n → count_by (λ x. x) (take (n + 1) flags) ≡ count_below (flag_at flags) (n + 1)
+  count_alike_more n true l e h = count_by_more_yes (λ x. x) flags n false l e ∙ ap (λ k. k + 1) h ∙ sym (count_more (flag_at flags) n ∙ ap (λ b. cond b (count_below (flag_at flags) n + 1) (count_below (flag_at flags) n)) e)
+  count_alike_more n false l e h = count_by_more_no (λ x. x) flags n false l e ∙ h ∙ sym (count_more (flag_at flags) n ∙ ap (λ b. cond b (count_below (flag_at flags) n + 1) (count_below (flag_at flags) n)) e)
+
+  -- The set ones of the first flags are as many as the numbers at which they stand.
+  count_alike : (n : ℕ) → n ≤ length flags → count_by (λ x. x) (take n flags) ≡ count_below (flag_at flags) n
+  count_alike zero l = sym (count_none (flag_at flags))
+  count_alike (suc n) l = rw (← add-one n) (count_alike_more n (flag_at flags n) (omega arith) refl (count_alike n (omega arith)))
+
+  -- The number of set flags in the list is their count.
+  pub count_flags : {r : ℕ} → r ≡ count_by (λ x. x) flags → SetFlags flags r
+  count_flags e =
+      let whole : take (length flags) flags ≡ flags = take_all (length flags) flags (omega arith) in
+      count_done (flag_at flags) (length flags) (length flags) refl
+      (e ∙ ap (count_by (λ x. x)) (sym whole) ∙ count_alike (length flags) (omega arith))

@@ -34,13 +34,7 @@ pub fn law_of_numbers()
 pub fn count(flags: &[bool]) -> usize
     ensures { SetFlags flags.now result }
 {
-    let mut found = 0;
-    for i in 0..flags.len() {
-        if flags[i] {
-            found += 1;
-        }
-    }
-    found
+    flags.iter().filter(|flag| **flag).count()
 }
 
 #[cfg(test)]

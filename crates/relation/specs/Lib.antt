@@ -1,6 +1,7 @@
 pub mod Sets
 pub mod Relations
 pub mod Masks
+pub mod Rows
 pub mod Climbs
 pub mod Values
 pub mod Problems

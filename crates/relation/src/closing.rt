@@ -47,26 +47,21 @@ impl Ascent for Closing {
     ghost solved = { Prim.search rules };
 
     fn bottom(&self) -> Closing {
-        let base = self.base;
         Closing {
-            base,
+            base: self.base,
             reached: Relation::none(),
         }
     }
 
     fn step(&self) -> Closing {
-        let base = self.base;
-        let reached = self.reached;
         Closing {
-            base,
-            reached: base.union(reached).joined(),
+            base: self.base,
+            reached: self.base.union(self.reached).joined(),
         }
     }
 
     fn is(&self, other: &Closing) -> bool {
-        let reached = self.reached;
-        let found = other.reached;
-        reached.is(found)
+        self.reached.is(other.reached)
     }
 }
 

@@ -48,21 +48,17 @@ impl Ascent for Reach {
     ghost solved = { Prim.search rules };
 
     fn bottom(&self) -> Reach {
-        let relation = self.relation;
         Reach {
-            relation,
-            from: self.from,
             reached: 0,
+            ..*self
         }
     }
 
     fn step(&self) -> Reach {
-        let relation = self.relation;
-        let found = relation.image(mask::union(self.from, self.reached));
+        let found = self.relation.image(mask::union(self.from, self.reached));
         Reach {
-            relation,
-            from: self.from,
             reached: mask::union(self.reached, found),
+            ..*self
         }
     }
 
@@ -89,7 +85,7 @@ impl Relation {
         ensures { Marks result (Path (Related self.rows) event) }
     {
         if event < 32 {
-            self.reach(mask::single(event as usize))
+            self.reach(mask::single(usize::from(event)))
         } else {
             0
         }

@@ -2,8 +2,10 @@
 ghost use Rattle.std.specs.Prelude.{◌<◌, Decides};
 ghost use Rattle.relation.specs.Relations.{Never, Union, Intersection, Difference, Complement, Sequence, Inverse, Product, Identity, Maybe, Image, Range, Diagonal, SamePairs, Empty, Irreflexive};
 ghost use Rattle.relation.specs.Masks.{Member, Marks, Related, Shows, Joined};
+ghost use Rattle.relation.specs.Rows.{TakesEvents, RowsBy};
 
 use super::mask;
+use std::array;
 
 /// A relation: the row of an event has the events that it is related to.
 #[derive(Clone, Copy)]
@@ -12,6 +14,16 @@ pub struct Relation {
 }
 
 impl Relation {
+    /// The relation whose rows are what a function gives for each event.
+    pub fn by_rows<F: Fn(usize) -> u32>(row: F) -> Relation
+        requires { TakesEvents (F.pre row) }
+        ensures { RowsBy (F.post row) result.rows }
+    {
+        Relation {
+            rows: array::from_fn(row),
+        }
+    }
+
     /// The relation with no pair.
     pub fn none() -> Relation
         ensures { Shows result.rows Never }
@@ -23,66 +35,42 @@ impl Relation {
     pub fn product(a: u32, b: u32) -> Relation
         ensures { Shows result.rows (Product (Member a) (Member b)) }
     {
-        let mut rows = [0; 32];
-        for i in 0..32 {
-            rows[i] = mask::gated(a, i, b);
-        }
-        Relation { rows }
+        Relation::by_rows(|i| mask::gated(a, i, b))
     }
 
     /// Every event of the set with itself.
     pub fn identity(events: u32) -> Relation
         ensures { Shows result.rows (Identity (Member events)) }
     {
-        let mut rows = [0; 32];
-        for i in 0..32 {
-            rows[i] = mask::gated(events, i, mask::single(i));
-        }
-        Relation { rows }
+        Relation::by_rows(|i| mask::gated(events, i, mask::single(i)))
     }
 
     /// The pairs of either relation.
     pub fn union(self, other: Relation) -> Relation
         ensures { Shows result.rows (Union (Related self.rows) (Related other.rows)) }
     {
-        let mut rows = [0; 32];
-        for i in 0..32 {
-            rows[i] = mask::union(self.rows[i], other.rows[i]);
-        }
-        Relation { rows }
+        Relation::by_rows(|i| mask::union(self.rows[i], other.rows[i]))
     }
 
     /// The pairs of both relations.
     pub fn intersection(self, other: Relation) -> Relation
         ensures { Shows result.rows (Intersection (Related self.rows) (Related other.rows)) }
     {
-        let mut rows = [0; 32];
-        for i in 0..32 {
-            rows[i] = mask::intersection(self.rows[i], other.rows[i]);
-        }
-        Relation { rows }
+        Relation::by_rows(|i| mask::intersection(self.rows[i], other.rows[i]))
     }
 
     /// The pairs of this relation that are not in the other.
     pub fn difference(self, other: Relation) -> Relation
         ensures { Shows result.rows (Difference (Related self.rows) (Related other.rows)) }
     {
-        let mut rows = [0; 32];
-        for i in 0..32 {
-            rows[i] = mask::difference(self.rows[i], other.rows[i]);
-        }
-        Relation { rows }
+        Relation::by_rows(|i| mask::difference(self.rows[i], other.rows[i]))
     }
 
     /// The pairs of events of the universe that are not in the relation.
     pub fn complement(self, universe: u32) -> Relation
         ensures { Shows result.rows (Complement (Member universe) (Related self.rows)) }
     {
-        let mut rows = [0; 32];
-        for i in 0..32 {
-            rows[i] = mask::gated(universe, i, mask::complement(self.rows[i], universe));
-        }
-        Relation { rows }
+        Relation::by_rows(|i| mask::gated(universe, i, mask::complement(self.rows[i], universe)))
     }
 
     /// At most one step.
@@ -96,33 +84,21 @@ impl Relation {
     pub fn image(self, events: u32) -> u32
         ensures { Marks result (Image (Member events) (Related self.rows)) }
     {
-        let mut found = 0;
-        for i in 0..32 {
-            found = mask::union(found, mask::gated(events, i, self.rows[i]));
-        }
-        found
+        Relation::by_rows(|i| mask::gated(events, i, self.rows[i])).range()
     }
 
     /// What something is related to.
     pub fn range(self) -> u32
         ensures { Marks result (Range (Related self.rows)) }
     {
-        let mut found = 0;
-        for i in 0..32 {
-            found = mask::union(found, self.rows[i]);
-        }
-        found
+        self.rows.iter().fold(0, |found, row| found | *row)
     }
 
     /// What is related to itself.
     pub fn diagonal(self) -> u32
         ensures { Marks result (Diagonal (Related self.rows)) }
     {
-        let mut found = 0;
-        for i in 0..32 {
-            found = mask::union(found, mask::gated(self.rows[i], i, mask::single(i)));
-        }
-        found
+        Relation::by_rows(|i| mask::gated(self.rows[i], i, mask::single(i))).range()
     }
 
     /// What is related to an event.
@@ -130,22 +106,14 @@ impl Relation {
         requires { event < 32 }
         ensures { Marks result (Inverse (Related self.rows) event) }
     {
-        let mut found = 0;
-        for i in 0..32 {
-            found = mask::union(found, mask::gated(self.rows[i], event, mask::single(i)));
-        }
-        found
+        Relation::by_rows(|i| mask::gated(self.rows[i], event, mask::single(i))).range()
     }
 
     /// The relation read backwards.
     pub fn inverse(self) -> Relation
         ensures { Shows result.rows (Inverse (Related self.rows)) }
     {
-        let mut rows = [0; 32];
-        for event in 0..32 {
-            rows[event] = self.column(event);
-        }
-        Relation { rows }
+        Relation::by_rows(|event| self.column(event))
     }
 
     /// The whole, and the onward row for every event that this relation relates to the middle one.
@@ -153,11 +121,7 @@ impl Relation {
         requires { middle < 32 }
         ensures { Shows result.rows (Union (Related whole.rows) (Product (Inverse (Related self.rows) middle) (Member onward))) }
     {
-        let mut rows = [0; 32];
-        for i in 0..32 {
-            rows[i] = mask::union(whole.rows[i], mask::gated(self.rows[i], middle, onward));
-        }
-        Relation { rows }
+        Relation::by_rows(|i| mask::union(whole.rows[i], mask::gated(self.rows[i], middle, onward)))
     }
 
     /// A step of this relation, then one of the other.
@@ -186,11 +150,8 @@ impl Relation {
     pub fn is(self, other: Relation) -> bool
         ensures { Decides result (SamePairs (Related self.rows) (Related other.rows)) }
     {
-        let mut same = true;
-        for i in 0..32 {
-            same = mask::is(self.rows[i], other.rows[i]) & same;
-        }
-        same
+        let apart = self.difference(other).union(other.difference(self));
+        apart.is_empty()
     }
 
     /// Whether no pair is in the relation.

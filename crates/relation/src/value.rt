@@ -6,7 +6,7 @@ ghost use Rattle.relation.specs.Values.{of_events, of_pairs, Means};
 use super::relation::Relation;
 
 /// What a value is: a set of events, or a relation.
-#[derive(Clone, Copy)]
+#[derive(Clone, Copy, Debug, PartialEq, Eq)]
 pub enum Kind {
     Events,
     Pairs,

@@ -1,11 +1,10 @@
-use Rattle.relation.proofs.Gathered.{gathered_none, gathered_more, column_one, column_done}
+use Rattle.std.proofs.Common.{rules}
+use Rattle.relation.proofs.Rows.{rows_show}
+use Rattle.relation.proofs.Gathered.{range_as, Leading, leading_row, leading}
 use Rattle.relation.proofs.relation.Relation.column.Goals as goal
 
-pub loop-i-init : goal.loop-i-init
-loop-i-init c = gathered_none _
-
-pub loop-i-preserved : goal.loop-i-preserved
-loop-i-preserved c = gathered_more _ _ c.loop-i.invariant (column_one _ _ _ c.loop-i-test.true c.single.ensures c.gated.ensures) c.union-found.ensures
-
 pub returns : goal.returns
-returns c = column_done _ _ _ c.loop-i-test.false c.loop-i.invariant
+returns c =
+    range_as (Leading c.args.self.rows c.args.event) _ (leading _ _)
+    (rows_show _ (λ a b r. r.0.within) (λ a v l g. search (rules, leading_row)) c.by_rows.ensures)
+    c.range.ensures

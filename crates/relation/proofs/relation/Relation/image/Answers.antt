@@ -1,11 +1,10 @@
-use Rattle.relation.proofs.Gathered.{gathered_none, gathered_more, image_one, image_done}
+use Rattle.std.proofs.Common.{rules}
+use Rattle.relation.proofs.Rows.{rows_show}
+use Rattle.relation.proofs.Gathered.{range_as, Chosen, chosen_row, chosen}
 use Rattle.relation.proofs.relation.Relation.image.Goals as goal
 
-pub loop-i-init : goal.loop-i-init
-loop-i-init c = gathered_none _
-
-pub loop-i-preserved : goal.loop-i-preserved
-loop-i-preserved c = gathered_more _ _ c.loop-i.invariant (image_one _ _ _ c.loop-i-test.true c.gated.ensures) c.union-found.ensures
-
 pub returns : goal.returns
-returns c = image_done _ _ _ c.loop-i-test.false c.loop-i.invariant
+returns c =
+    range_as (Chosen c.args.self.rows c.args.events) _ (chosen _ _)
+    (rows_show _ (λ a b r. r.1.within) (λ a v l g. chosen_row c.args.self.rows c.args.events a l (search rules)) c.by_rows.ensures)
+    c.range.ensures

@@ -1,11 +1,6 @@
-use Rattle.relation.proofs.Rows.{filled_none, filled_more, filled_done, intersection_row}
+use Rattle.std.proofs.Common.{rules}
+use Rattle.relation.proofs.Rows.{rows_show, intersection_row}
 use Rattle.relation.proofs.relation.Relation.intersection.Goals as goal
 
-pub loop-i-init : goal.loop-i-init
-loop-i-init c = filled_none _
-
-pub loop-i-preserved : goal.loop-i-preserved
-loop-i-preserved c = filled_more _ _ _ _ c.loop-i-test.true c.loop-i.invariant (intersection_row _ _ _ c.loop-i-test.true c.intersection.ensures)
-
 pub returns : goal.returns
-returns c = filled_done _ _ _ c.loop-i-test.false (λ a b r. r.0.within) c.loop-i.invariant
+returns c = rows_show _ (λ a b r. r.0.within) (λ a v l g. intersection_row c.args.self.rows c.args.other.rows a l (search rules)) c.by_rows.ensures

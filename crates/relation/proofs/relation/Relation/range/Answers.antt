@@ -1,11 +1,13 @@
-use Rattle.relation.proofs.Gathered.{gathered_none, gathered_more, range_one, range_done}
+use Rattle.std.proofs.Common.{◌≡◌, rules}
+use mathlib.Core.Path.{subst⁻¹}
+use Rattle.std.specs.List.{fold}
+use Rattle.std.specs.Int.Bits.{bit_or}
+use Rattle.relation.specs.Relations.{Range}
+use Rattle.relation.specs.Masks.{Related, Marks}
+use Rattle.relation.proofs.Gathered.{union_rows}
 use Rattle.relation.proofs.relation.Relation.range.Goals as goal
 
-pub loop-i-init : goal.loop-i-init
-loop-i-init c = gathered_none _
-
-pub loop-i-preserved : goal.loop-i-preserved
-loop-i-preserved c = gathered_more _ _ c.loop-i.invariant (range_one _ _ c.loop-i-test.true) c.union-found.ensures
-
 pub returns : goal.returns
-returns c = range_done _ _ c.loop-i-test.false c.loop-i.invariant
+returns c =
+    let e : c.fold.result ≡ fold bit_or 0 c.args.self.rows = search rules in
+    subst⁻¹ (λ x. Marks x (Range (Related c.args.self.rows))) e (union_rows c.args.self.rows (search rules) (search rules))

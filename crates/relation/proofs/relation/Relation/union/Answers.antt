@@ -1,12 +1,6 @@
-use Rattle.std.proofs.Common.{⊎_elim}
-use Rattle.relation.proofs.Rows.{filled_none, filled_more, filled_done, union_row}
+use Rattle.std.proofs.Common.{rules, ⊎_elim}
+use Rattle.relation.proofs.Rows.{rows_show, union_row}
 use Rattle.relation.proofs.relation.Relation.union.Goals as goal
 
-pub loop-i-init : goal.loop-i-init
-loop-i-init c = filled_none _
-
-pub loop-i-preserved : goal.loop-i-preserved
-loop-i-preserved c = filled_more _ _ _ _ c.loop-i-test.true c.loop-i.invariant (union_row _ _ _ c.loop-i-test.true c.union.ensures)
-
 pub returns : goal.returns
-returns c = filled_done _ _ _ c.loop-i-test.false (λ a b. ⊎_elim (λ r. r.within) (λ r. r.within)) c.loop-i.invariant
+returns c = rows_show _ (λ a b. ⊎_elim (λ r. r.within) (λ r. r.within)) (λ a v l g. union_row c.args.self.rows c.args.other.rows a l (search rules)) c.by_rows.ensures

@@ -1,7 +1,0 @@
-use Rattle.relation.specs.Relations.{Product}
-use Rattle.relation.specs.Masks.{Member}
-use Rattle.relation.proofs.Rows.{Filled}
-use Rattle.relation.proofs.relation.Relation.product.Given as goal
-
-abbrev pub invariant-loop-i : goal.invariant-loop-i
-invariant-loop-i l = Filled l.i l.rows (Product (Member l.a) (Member l.b))
