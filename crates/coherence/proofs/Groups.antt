@@ -11,8 +11,8 @@ use Rattle.run.specs.Tests.{is_initial}
 use Rattle.run.proofs.Rules.{initial_decided, holds_decided}
 use Rattle.finite.specs.Lists.{In, Apart}
 use Rattle.finite.specs.Counts.{Counts}
-use Rattle.coherence.specs.declared.role.Role.{Role}
-use Rattle.coherence.specs.declared.role.Role.TheVariants.{First, Free, Last}
+use Rattle.coherence.specs.Lines.{Role}
+use Rattle.coherence.specs.Lines.{First, Free, Last}
 use Rattle.coherence.specs.Perms.{LinesUp, Rising, Sorted}
 use Rattle.coherence.specs.Coherence.{WriteOf, InitialOf, SettledOf, FreeOf, Order, Coherence}
 use Rattle.coherence.specs.Lines.{role_test, chosen, group, line, Precedes}

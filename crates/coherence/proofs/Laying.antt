@@ -4,7 +4,7 @@ use native.Mathlib.Nat.{mod-le}
 use lib.Bits.{bit_or}
 use Rattle.std.proofs.lemmas.Nat.{div_below}
 use Rattle.run.specs.Runs.{Run}
-use Rattle.coherence.specs.declared.role.Role.TheVariants.{First, Free, Last}
+use Rattle.coherence.specs.Lines.{First, Free, Last}
 use Rattle.coherence.specs.Perms.{factorial, nth}
 use Rattle.coherence.specs.Lines.{chosen, those, line}
 use Rattle.coherence.specs.Digits.{row_by}

@@ -5,10 +5,16 @@ use native.Mathlib.Nat.{div-eq_of_lt, zero-div}
 use lib.Bits.{bit_or, bit_xor}
 use Rattle.std.proofs.lemmas.Bool.{both_ways, cases_Bool, cases_eq, cases_lt, eq-eqb, ne_eqb, or_left}
 use Rattle.std.proofs.lemmas.Bool.Decides.{nat_tests}
-use Rattle.std.proofs.lemmas.Nat.{pow-add, pow_below, shl-shr, or_shr, or_mod, xor_shr, xor_mod}
+use Rattle.std.proofs.lemmas.Nat.Bits.{same_from_bits_below}
+use Rattle.std.proofs.lemmas.Nat.{or_lt, pow-add, pow_below, shl-shr, or_shr, or_mod, xor_shr, xor_mod}
 use Rattle.std.specs.Int.Count.{ones, ones_in}
 use Rattle.std.specs.Int.RustNames.{count_ones}
 use Rattle.std.proofs.lemmas.Nat.{mod-pow-add, ones_cat, pow_pos}
+use Rattle.run.specs.declared.event.Event.{Event}
+use Rattle.run.specs.Runs.{Run}
+use Rattle.run.specs.Tests.{holds}
+use Rattle.run.specs.Masks.{Gathered}
+use Rattle.run.proofs.Gathering.{gathered_at}
 use Rattle.finite.specs.Lists.{In, Apart}
 use Rattle.coherence.specs.Perms.{removed}
 use Rattle.coherence.specs.Lines.{those, member, precedes}
@@ -118,19 +124,6 @@ size_below mask (suc n) =
 pub mask_size : (mask : ℕ) → mask < 2 ^ 32 → count_ones mask ≡ length (those (has mask) 32)
 mask_size mask fits = sym (size_below mask 32 ∙ ap count_ones (mod-eq_of_lt fits))
 
--- a mask of a test as a loop makes it
-pub mask_none : (p : ℕ → Bool) → 0 ≡ mask_of p 0
-unfolding mask_of
-mask_none p = refl
-
-pub mask_found : (p : ℕ → Bool) (n found : ℕ) → found ≡ mask_of p n → p n ≡ true → more found n ≡ mask_of p (n + 1)
-unfolding mask_of
-mask_found p n found e h = rw (add-one n, h, e) refl
-
-pub mask_passed : (p : ℕ → Bool) (n found : ℕ) → found ≡ mask_of p n → p n ≡ false → found ≡ mask_of p (n + 1)
-unfolding mask_of
-mask_passed p n found e h = rw (add-one n, h, e) refl
-
 -- it has what passes
 mask_step : (p : ℕ → Bool) (n k : ℕ) (b : Bool) → (k ≡ n → ⊥) → has (cond b (more (mask_of p n) n) (mask_of p n)) k ≡ has (mask_of p n) k
 mask_step p n k true ne = has_more_other (mask_of p n) n k ne
@@ -150,6 +143,27 @@ unfolding mask_of
 mask_in p zero k lt = absurd (not-suc-le-zero lt)
 mask_in p (suc n) k lt =
     ⊎_elim (λ e. subst (λ j. has (mask_of p (suc n)) j ≡ p j) (sym e) (mask_here p n (p n))) (λ ne. mask_step p n k (p n) ne ∙ mask_in p n k (omega arith)) (cases_eq k n)
+
+-- it fits
+step_fits : (p : ℕ → Bool) (n k : ℕ) (b : Bool) → n < k → mask_of p n < 2 ^ k → cond b (more (mask_of p n) n) (mask_of p n) < 2 ^ k
+step_fits p n k true lt h = or_lt k (mask_of p n) (2 ^ n) h (pow_below n k lt)
+step_fits p n k false lt h = h
+
+mask_fits : (p : ℕ → Bool) (n k : ℕ) → n ≤ k → mask_of p n < 2 ^ k
+unfolding mask_of
+mask_fits p zero k le = pow_pos k
+mask_fits p (suc n) k le = step_fits p n k (p n) (omega arith) (mask_fits p n k (omega arith))
+
+-- a mask gathered by a test is that of what passes
+bit_from : (x y : ℕ) → x < 2 → y < 2 → eqb x 1 ≡ eqb y 1 → x ≡ y
+bit_from x y p q h = grind (arith, nat_tests)
+
+pub mask_gathered : (answers : Event → Bool → Type 0) (run : Run) (test : Event → Bool) {mask : ℕ} → ((e : Event) (b : Bool) → answers e b → b ≡ test e) → Gathered answers run mask → mask ≡ mask_of (λ n. holds (run n) test) 32
+unfolding has
+mask_gathered answers run test {mask} computes g =
+    let p : ℕ → Bool = λ n. holds (run n) test in
+    same_from_bits_below 32 mask (mask_of p 32) g.fits (mask_fits p 32 32 (omega arith))
+    (λ n lt. bit_from _ _ (omega arith) (omega arith) (gathered_at answers run test computes g n lt ∙ sym (mask_in p 32 n lt)))
 
 -- the numbers of a mask are those that pass
 pub those_mask : (p : ℕ → Bool) → those (has (mask_of p 32)) 32 ≡ those p 32

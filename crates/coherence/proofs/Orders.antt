@@ -7,7 +7,7 @@ use Rattle.run.specs.Runs.{Run}
 use Rattle.run.specs.Rules.{Sound}
 use Rattle.run.specs.Tests.{any_below}
 use Rattle.run.proofs.Below.{any_same}
-use Rattle.coherence.specs.declared.role.Role.TheVariants.{First, Free, Last}
+use Rattle.coherence.specs.Lines.{First, Free, Last}
 use Rattle.coherence.specs.Perms.{LinesUp, Sorted}
 use Rattle.coherence.specs.Coherence.{WriteOf, FreeOf, Order, Coherence}
 use Rattle.coherence.specs.Numbers.{Row}

@@ -3,7 +3,7 @@ use Rattle.std.proofs.Common.{◌≡◌, ℕ, ◌<◌, List, length, sym, refl, 
 use Rattle.run.specs.Runs.{Run}
 use Rattle.run.specs.Rules.{Sound}
 use Rattle.finite.proofs.Counts.{count_unique, count_carried}
-use Rattle.coherence.specs.declared.role.Role.TheVariants.{Free}
+use Rattle.coherence.specs.Lines.{Free}
 use Rattle.coherence.specs.Perms.{factorial, LinesUp, rank}
 use Rattle.coherence.specs.Coherence.{FreeOf, Order, Coherence}
 use Rattle.coherence.specs.Numbers.{mixed, product, Frees, radices, Orders, Row, Digit, Number, Earlier}

@@ -6,7 +6,7 @@ use Rattle.std.proofs.lemmas.Bool.Decides.{Decides-or, Decides-like, Decides-at,
 use Rattle.run.specs.Runs.{Run}
 use Rattle.run.specs.Tests.{any_below}
 use Rattle.finite.specs.Lists.{In}
-use Rattle.coherence.specs.declared.role.Role.TheVariants.{First, Free, Last}
+use Rattle.coherence.specs.Lines.{First, Free, Last}
 use Rattle.coherence.specs.Perms.{LinesUp}
 use Rattle.coherence.specs.Coherence.{FreeOf}
 use Rattle.coherence.specs.Numbers.{product}

@@ -1,7 +1,7 @@
 -- The order of a number, computed: the number's digits, and the permutation of each. Assumes nothing.
 use Rattle.std.specs.Prelude.{ℕ, zero, suc, ◌/◌, ◌%◌, List, [], ◌∷◌, ◌++◌, length, slice_index}
 use Rattle.run.specs.Runs.{Run}
-use Rattle.coherence.specs.declared.role.Role.TheVariants.{Free}
+use Rattle.coherence.specs.Lines.{Free}
 use Rattle.coherence.specs.Perms.{factorial, nth}
 use Rattle.coherence.specs.Coherence.{Order}
 use Rattle.coherence.specs.Lines.{group, line, order_of}

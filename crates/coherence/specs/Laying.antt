@@ -1,7 +1,7 @@
 -- The rows of an order, computed location by location. Assumes nothing.
 use Rattle.std.specs.Prelude.{ℕ, zero, suc, min, List, length, replicate, bit_or, slice_index}
 use Rattle.run.specs.Runs.{Run}
-use Rattle.coherence.specs.declared.role.Role.TheVariants.{First, Free, Last}
+use Rattle.coherence.specs.Lines.{First, Free, Last}
 use Rattle.coherence.specs.Perms.{nth}
 use Rattle.coherence.specs.Lines.{chosen, those, line}
 use Rattle.coherence.specs.Digits.{row_by}

@@ -4,9 +4,13 @@ use Rattle.run.specs.declared.event.Event.{Event}
 use Rattle.run.specs.Runs.{Run}
 use Rattle.run.specs.Tests.{any_below, holds, is_initial}
 use Rattle.finite.specs.Lists.{In}
-use Rattle.coherence.specs.declared.role.Role.{Role}
-use Rattle.coherence.specs.declared.role.Role.TheVariants.{First, Free, Last}
 use Rattle.coherence.specs.Coherence.{Order}
+
+-- where a write stands in the line of its location: an initial one first, a settled one last, a free one between
+pub data Role : Type 0 where
+  First : Role
+  Free : Role
+  Last : Role
 
 -- the event is a write of the location in this role
 abbrev pub role_test : Role → ℕ → Event → Bool

@@ -5,7 +5,7 @@ mod factorials;
 mod line;
 mod mask;
 pub mod numbers;
-pub mod role;
+mod role;
 
 ghost use Rattle.coherence.specs.Laws.{OneProduct, Pairing, Counted, OnlyBelow32};
 ghost use Rattle.coherence.specs.Renumbered.{Carrying};

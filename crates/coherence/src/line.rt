@@ -7,7 +7,6 @@ ghost use Rattle.coherence.specs.Digits.{ways, row_by};
 ghost use Rattle.coherence.specs.Masks.{has, left_of, laid};
 ghost use Rattle.coherence.specs.Laying.{mask_row, writes_mask, rows_at};
 
-use super::role::Role;
 use super::{factorials, mask, role};
 use relation::Relation;
 use run::Snapshot;
@@ -36,9 +35,9 @@ fn lay_line(events: &Snapshot, location: u8, digit: u32, order: &mut Relation)
     requires small { digit < 362880 }
     ensures { order.new.rows ≡ laid order.old.rows (writes_mask (table_run events.now.events) location) (line (table_run events.now.events) location (row_by (table_run events.now.events) location digit)) }
 {
-    let first = role::gather(events, Role::First, location);
-    let free = role::gather(events, Role::Free, location);
-    let last = role::gather(events, Role::Last, location);
+    let first = role::first(events, location);
+    let free = role::free(events, location);
+    let last = role::last(events, location);
     let after_first = lay(order, first | free | last, first, 0);
     let after_free = lay(order, after_first, free, digit);
     lay(order, after_free, last, 0);

@@ -1,6 +1,6 @@
 //! Masks: sets of event numbers as 32 bits.
 ghost use Rattle.std.specs.Prelude.{◌≡◌, ◌<◌, slice_index};
-ghost use Rattle.coherence.specs.Masks.{has, more, less};
+ghost use Rattle.coherence.specs.Masks.{has, less};
 ghost use Rattle.coherence.specs.Lines.{those};
 
 /// Whether a number is in the set.
@@ -9,14 +9,6 @@ pub(crate) fn contains(mask: u32, number: u8) -> bool
     ensures { result ≡ has mask number }
 {
     (mask >> number) % 2 == 1
-}
-
-/// The set with one number more.
-pub(crate) fn with(mask: u32, number: u8) -> u32
-    requires { number < 32 }
-    ensures { result ≡ more mask number }
-{
-    mask | (1 << number)
 }
 
 /// The set without a number that is in it.

@@ -5,7 +5,6 @@ ghost use Rattle.coherence.specs.Digits.{ways, digits_of, excess};
 ghost use Rattle.coherence.specs.Laying.{capped};
 ghost use Rattle.coherence.specs.Answers.{Told, Gives};
 
-use super::role::Role;
 use super::{factorials, line, role};
 use relation::Relation;
 use run::Snapshot;
@@ -20,8 +19,7 @@ fn ways(events: &Snapshot, location: u8) -> u32
     ensures value { result ≡ capped (ways (table_run events.now.events) location) }
     ensures positive { 0 < result }
 {
-    let free = role::gather(events, Role::Free, location);
-    factorials::factorial(free.count_ones())
+    factorials::factorial(role::free(events, location).count_ones())
 }
 
 /// How many coherence orders a run has, or nothing if they are more than 5,040.

@@ -9,7 +9,7 @@ pub lay-after_first-requires : goal.lay-after_first-requires
 lay-after_first-requires c = record { below = factorial_pos _; small = omega arith }
 
 pub lay-after_free-requires : goal.lay-after_free-requires
-lay-after_free-requires c = record { below = subst (λ n. c.args.digit < factorial n) (ap length (sym (gathered c.gather-free.result _ c.gather-free.ensures))) c.requires.below; small = c.requires.small }
+lay-after_free-requires c = record { below = subst (λ n. c.args.digit < factorial n) (ap length (sym (gathered c.free-free.result _ c.free-free.ensures))) c.requires.below; small = c.requires.small }
 
 pub lay-requires : goal.lay-requires
 lay-requires c = record { below = factorial_pos _; small = omega arith }
@@ -17,6 +17,6 @@ lay-requires c = record { below = factorial_pos _; small = omega arith }
 pub returns : goal.returns
 returns c =
     line_laid (table_run c.args.events.now.events) c.args.location c.args.digit c.args.order.now.rows c.lay-after_first.new.order.rows c.lay-after_free.new.order.rows c.lay.new.order.rows
-    c.gather-first.result c.gather-free.result c.gather-last.result c.lay-after_first.result c.lay-after_free.result
-    c.gather-first.ensures c.gather-free.ensures c.gather-last.ensures
+    c.first-first.result c.free-free.result c.last-last.result c.lay-after_first.result c.lay-after_free.result
+    c.first-first.ensures c.free-free.ensures c.last-last.ensures
     c.lay-after_first.ensures.rows c.lay-after_first.ensures.rest c.lay-after_free.ensures.rows c.lay-after_free.ensures.rest c.lay.ensures.rows

@@ -6,4 +6,4 @@ use Rattle.coherence.proofs.Laying.{gathered}
 use Rattle.coherence.proofs.numbers.ways.Goals as goal
 
 pub returns-clause-value : goal.returns-clause-value
-returns-clause-value c = c.factorial.ensures.value ∙ ap (λ n. capped (factorial n)) (mask_size c.gather-free.result (search rules) ∙ ap length (gathered c.gather-free.result _ c.gather-free.ensures))
+returns-clause-value c = c.factorial.ensures.value ∙ ap (λ n. capped (factorial n)) (mask_size c.free.result (search rules) ∙ ap length (gathered c.free.result _ c.free.ensures))
