@@ -8,7 +8,7 @@ use Rattle.sentence.specs.declared.tree.Expr.{Expr, Inside, Tilde, Ended, Joined
 use Rattle.sentence.specs.Exprs.{tree_of}
 use Rattle.term.specs.declared.term.Term as program
 use Rattle.term.specs.Terms.{term_of, complement, ended, joined}
-use Rattle.cat.specs.declared.placed.Placed.{Placed}
+use Rattle.sentence.specs.declared.placed.Placed.{Placed}
 use Rattle.cat.specs.Sorts.{Tokens}
 use Rattle.cat.specs.Resolving.{between, resolve}
 use Rattle.cat.specs.Placing.{TermPlaced}

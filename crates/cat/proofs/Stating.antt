@@ -1,5 +1,6 @@
 -- Going through the statements of a sentence. Assumes nothing.
-use Rattle.std.proofs.Common.{◌≡◌, ℕ, ◌+◌, ◌<◌, ◌≤◌, Bool, List, [], ◌∷◌, ◌++◌, length, get_or, drop, vec_items, Vec, sym, refl, ap, ◌∙◌, append_assoc, append-nil, arith, length-append}
+use Rattle.std.proofs.Common.{◌≡◌, ℕ, ◌+◌, ◌<◌, ◌≤◌, Bool, true, false, List, [], ◌∷◌, ◌++◌, length, get_or, drop, vec_items, Vec, sym, refl, ap, ◌∙◌, append_assoc, append-nil, arith, length-append}
+use mir.Val.{bool_byte}
 use Rattle.std.specs.declared.alloc.Global.{Global}
 use Rattle.std.proofs.lemmas.List.{drop_all, drop_more, map-append}
 use Rattle.sentence.specs.declared.sign.Word.{Word}
@@ -15,7 +16,7 @@ use Rattle.term.specs.declared.statement.Statement.TheVariants.{Group, Check}
 use Rattle.term.specs.Terms.{term_of}
 use Rattle.term.specs.Statements as resolved
 use Rattle.term.specs.Statements.{mark_of, statement_of, statements_of}
-use Rattle.cat.specs.declared.placed.Placed.{Placed}
+use Rattle.sentence.specs.declared.placed.Placed.{Placed}
 use Rattle.cat.specs.Sorts.{Tokens}
 use Rattle.cat.specs.Resolving.{resolve, before_word, mark_at, resolve_group, group_tokens, resolve_statement, resolve_statements, resolved_statements, bound_after}
 use Rattle.cat.specs.Placing.{GroupPlaced, StatementPlaced}
@@ -40,10 +41,10 @@ module _ (found : Tokens) (bound : List ℕ) (at : ℕ) where
         next = omega (arith, end, on, k, long_check m n w t);
       }
 
-  pub group_placed : (t : Tree) (ts : List Tree) (later slice : List ℕ) (p : Placed (Vec program_binding.Binding Global)) → later ≡ bound ++ group_tokens (at + 2) (t ∷ ts) → slice ≡ later → GroupPlaced found slice (at + 2) t ts p → StatementPlaced found bound later at (groups t ts) (record { item = Group p.item; next = p.next })
-  group_placed t ts later slice p is same h =
+  pub group_placed : (t : Tree) (ts : List Tree) (later : List ℕ) (p : Placed (Vec program_binding.Binding Global)) → later ≡ bound ++ group_tokens (at + 2) (t ∷ ts) → GroupPlaced found later (at + 2) t ts p → StatementPlaced found bound later at (groups t ts) (record { item = Group p.item; next = p.next })
+  group_placed t ts later p is h =
       record {
-        statement = ap resolved.groups (h.bindings ∙ ap (λ x. resolve_group found x [] (at + 2) (t ∷ ts)) (same ∙ is));
+        statement = ap resolved.groups (h.bindings ∙ ap (λ x. resolve_group found x [] (at + 2) (t ∷ ts)) is);
         binds = is;
         next = omega (arith, h.next, long_group t ts);
       }
@@ -60,15 +61,21 @@ pub record StatesOn (found : Tokens) (ss : List said.Statement) (all : List reso
   pub whole : statements_of so_far ++ resolve_statements found bound at (saids_of (drop i ss)) ≡ all
   pub ends : at + length (spell_statements (saids_of (drop i ss))) ≡ end
 
-pub states_first : (found : Tokens) (x : sentence.Sentence) (at : ℕ) (bound : List ℕ) (so_far : List program.Statement) → at ≡ length (heading x.titled) → bound ≡ [] → so_far ≡ [] → StatesOn found (vec_items x.statements) (resolved_statements found (sentence_of x)) (length (spell_text (sentence_of x))) 0 at bound so_far
-states_first found x at bound so_far is none nothing =
+pub states_first : (found : Tokens) (x : sentence.Sentence) (ss : List said.Statement) (at : ℕ) (bound : List ℕ) (so_far : List program.Statement) → ss ≡ vec_items x.statements → at ≡ bool_byte x.titled → bound ≡ [] → so_far ≡ [] → StatesOn found ss (resolved_statements found (sentence_of x)) (length (spell_text (sentence_of x))) 0 at bound so_far
+states_first found x ss at bound so_far are is none nothing =
+    let front : at ≡ length (heading x.titled) = is ∙ titled x.titled in
     record {
       whole =
-          ap (λ y. statements_of y ++ resolve_statements found bound at (saids_of (vec_items x.statements))) nothing
-          ∙ ap (λ y. resolve_statements found y at (saids_of (vec_items x.statements))) none
-          ∙ ap (λ k. resolve_statements found [] k (saids_of (vec_items x.statements))) is;
-      ends = omega (arith, is, length-append (heading x.titled) (spell_statements (saids_of (vec_items x.statements))));
+          ap (λ y. statements_of y ++ resolve_statements found bound at (saids_of ss)) nothing
+          ∙ ap (λ y. resolve_statements found y at (saids_of ss)) none
+          ∙ ap (λ k. resolve_statements found [] k (saids_of ss)) front
+          ∙ ap (λ y. resolve_statements found [] (length (heading x.titled)) (saids_of y)) are;
+      ends = omega (arith, front, ap (λ y. length (spell_statements (saids_of y))) are, length-append (heading x.titled) (spell_statements (saids_of (vec_items x.statements))));
     }
+  where
+    titled : (b : Bool) → bool_byte b ≡ length (heading b)
+    titled true = refl
+    titled false = refl
 
 module _ (found : Tokens) (ss : List said.Statement) (all : List resolved.Statement) (end i at : ℕ) (bound : List ℕ) (so_far : List program.Statement) where
   -- what is left fits

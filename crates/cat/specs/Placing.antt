@@ -7,9 +7,18 @@ use Rattle.term.specs.declared.statement.Binding as program_binding
 use Rattle.term.specs.declared.statement.Statement as program_statement
 use Rattle.term.specs.Terms.{term_of}
 use Rattle.term.specs.Statements.{binding_of, statement_of}
-use Rattle.cat.specs.declared.placed.Placed.{Placed}
+use Rattle.sentence.specs.declared.placed.Placed.{Placed}
+use Rattle.token.specs.Views.{lexeme_view}
+use Rattle.cat.specs.declared.scope.Scope.{Scope}
 use Rattle.cat.specs.Sorts.{Tokens}
 use Rattle.cat.specs.Resolving.{resolve, resolve_binding, resolve_group, resolve_statement, bound_after}
+
+-- the tokens of a scope, and those of the names that are bound in it
+abbrev pub tokens_of : Scope → Tokens
+tokens_of s = map lexeme_view s.lexemes.now
+
+abbrev pub bound_of : Scope → List ℕ
+bound_of s = vec_items s.bound
 
 -- the term of an expression that begins at a token, and the token behind it
 pub record TermPlaced (found : Tokens) (bound : List ℕ) (at : ℕ) (t : Tree) (p : Placed program.Term) : Type 0 where

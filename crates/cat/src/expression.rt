@@ -1,20 +1,17 @@
 //! Expressions whose names are resolved.
-ghost use Rattle.std.specs.Prelude.{◌≡◌, ◌+◌, ◌^◌, ◌<◌, map, length, IfOk};
+ghost use Rattle.std.specs.Prelude.{◌≡◌, ◌+◌, ◌^◌, ◌<◌, length, IfOk};
 ghost use Rattle.sentence.specs.Exprs.{tree_of};
 ghost use Rattle.sentence.specs.Trees.{atom, spell};
 ghost use Rattle.term.specs.Terms.{term_of};
-ghost use Rattle.token.specs.Views.{lexeme_view};
-ghost use Rattle.cat.specs.Placing.{TermPlaced};
+ghost use Rattle.cat.specs.Placing.{tokens_of, bound_of, TermPlaced};
 ghost use Rattle.cat.specs.Resolving.{between, resolve};
 
 use super::build::*;
-use super::placed::Placed;
-use super::scope::name_term;
-use sentence::Expr;
+use super::scope::Scope;
 use sentence::sign::{Bracket, Leaf};
+use sentence::{Expr, Placed};
 use std::alloc::{AllocError, Global};
 use term::{Given, Term};
-use token::Lexeme;
 
 /// How many tokens an expression has.
 pub(crate) fn size(tree: &Expr) -> usize
@@ -30,18 +27,6 @@ pub(crate) fn size(tree: &Expr) -> usize
     }
 }
 
-/// A leaf at a token.
-fn leaf_term<'a>(lexemes: &[Lexeme<'a>], bound: &[usize], token: usize, leaf: Leaf) -> Term
-    ensures { term_of result ≡ resolve (map lexeme_view lexemes.now) bound.now token (atom leaf) }
-{
-    match leaf {
-        Leaf::Name => name_term(lexemes, bound, token),
-        Leaf::Universe => Term::Given(Given::Universe),
-        Leaf::NoPairs => Term::Given(Given::NoPairs),
-        Leaf::NoEvents => Term::Given(Given::NoEvents),
-    }
-}
-
 /// A term in brackets, the opening one at a token: round ones change nothing, square ones give identity on a set.
 fn bracketed(heap: Global, bracket: Bracket, token: usize, inside: Term) -> Result<Term, AllocError>
     ensures { IfOk result (λ t. term_of t ≡ between bracket token (term_of inside)) }
@@ -52,54 +37,62 @@ fn bracketed(heap: Global, bracket: Bracket, token: usize, inside: Term) -> Resu
     }
 }
 
-/// The term of an expression that begins at a token, where these names are bound.
-pub(crate) fn resolve<'a>(
-    heap: Global,
-    lexemes: &[Lexeme<'a>],
-    bound: &[usize],
-    at: usize,
-    tree: &Expr,
-) -> Result<Placed<Term>, AllocError>
-    requires { at + length (spell (tree_of tree.now)) < 2 ^ 64 }
-    ensures { IfOk result (λ p. TermPlaced (map lexeme_view lexemes.now) bound.now at (tree_of tree.now) p) }
-{
-    match tree {
-        Expr::Atom(leaf, _) => Ok(Placed {
-            item: leaf_term(lexemes, bound, at, *leaf),
-            next: at + 1,
-        }),
-        Expr::Inside(bracket, inner) => {
-            let inside = resolve(heap, lexemes, bound, at + 1, inner)?;
-            let item = bracketed(heap, *bracket, at, inside.item)?;
-            Ok(Placed {
-                item,
-                next: inside.next + 1,
-            })
+impl<'a> Scope<'a> {
+    /// A leaf at a token.
+    fn leaf_term(&self, token: usize, leaf: Leaf) -> Term
+        ensures { term_of result ≡ resolve (tokens_of self.now) (bound_of self.now) token (atom leaf) }
+    {
+        match leaf {
+            Leaf::Name => self.name_term(token),
+            Leaf::Universe => Term::Given(Given::Universe),
+            Leaf::NoPairs => Term::Given(Given::NoPairs),
+            Leaf::NoEvents => Term::Given(Given::NoEvents),
         }
-        Expr::Tilde(inner) => {
-            let inside = resolve(heap, lexemes, bound, at + 1, inner)?;
-            let item = complement(heap, inside.item)?;
-            Ok(Placed {
-                item,
-                next: inside.next,
-            })
-        }
-        Expr::Ended(inner, sign) => {
-            let inside = resolve(heap, lexemes, bound, at, inner)?;
-            let item = ended(heap, inside.next, *sign, inside.item)?;
-            Ok(Placed {
-                item,
-                next: inside.next + 1,
-            })
-        }
-        Expr::Joined(sign, left, right) => {
-            let first = resolve(heap, lexemes, bound, at, left)?;
-            let second = resolve(heap, lexemes, bound, first.next + 1, right)?;
-            let item = joined(heap, first.next, *sign, first.item, second.item)?;
-            Ok(Placed {
-                item,
-                next: second.next,
-            })
+    }
+
+    /// The term of an expression that begins at a token.
+    pub(crate) fn resolve(&self, at: usize, tree: &Expr) -> Result<Placed<Term>, AllocError>
+        requires { at + length (spell (tree_of tree.now)) < 2 ^ 64 }
+        ensures { IfOk result (λ p. TermPlaced (tokens_of self.now) (bound_of self.now) at (tree_of tree.now) p) }
+    {
+        match tree {
+            Expr::Atom(leaf, _) => Ok(Placed {
+                item: self.leaf_term(at, *leaf),
+                next: at + 1,
+            }),
+            Expr::Inside(bracket, inner) => {
+                let inside = self.resolve(at + 1, inner)?;
+                let item = bracketed(self.heap, *bracket, at, inside.item)?;
+                Ok(Placed {
+                    item,
+                    next: inside.next + 1,
+                })
+            }
+            Expr::Tilde(inner) => {
+                let inside = self.resolve(at + 1, inner)?;
+                let item = complement(self.heap, inside.item)?;
+                Ok(Placed {
+                    item,
+                    next: inside.next,
+                })
+            }
+            Expr::Ended(inner, sign) => {
+                let inside = self.resolve(at, inner)?;
+                let item = ended(self.heap, inside.next, *sign, inside.item)?;
+                Ok(Placed {
+                    item,
+                    next: inside.next + 1,
+                })
+            }
+            Expr::Joined(sign, left, right) => {
+                let first = self.resolve(at, left)?;
+                let second = self.resolve(first.next + 1, right)?;
+                let item = joined(self.heap, first.next, *sign, first.item, second.item)?;
+                Ok(Placed {
+                    item,
+                    next: second.next,
+                })
+            }
         }
     }
 }

@@ -9,7 +9,6 @@ pub mod fault;
 pub mod law;
 pub mod mark;
 pub mod model;
-pub mod placed;
 pub mod read;
 pub mod scope;
 pub mod sort;

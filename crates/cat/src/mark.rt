@@ -1,16 +1,15 @@
 //! Marks of checks, with their labels.
-ghost use Rattle.std.specs.Prelude.{◌≡◌, map, length, IfOk};
+ghost use Rattle.std.specs.Prelude.{◌≡◌, length, IfOk};
 ghost use Rattle.sentence.specs.Statements.{mark_of as said_mark};
 ghost use Rattle.sentence.specs.Trees.{mark_back};
 ghost use Rattle.term.specs.Statements.{mark_of};
-ghost use Rattle.token.specs.Views.{lexeme_view};
+ghost use Rattle.cat.specs.Placing.{tokens_of};
 ghost use Rattle.cat.specs.Resolving.{mark_at, before_word};
 
-use super::scope::name_at;
+use super::scope::Scope;
 use sentence::statement::Mark as Said;
-use std::alloc::{AllocError, Global};
+use std::alloc::AllocError;
 use term::statement::Mark;
-use token::Lexeme;
 
 /// How many tokens stand before the word of a check.
 pub(crate) fn before_word(mark: Said, negated: bool) -> usize
@@ -29,18 +28,16 @@ pub(crate) fn behind_term(mark: Said) -> usize
     }
 }
 
-/// The mark of a check, with its label at a token.
-pub(crate) fn labelled<'a>(
-    heap: Global,
-    lexemes: &[Lexeme<'a>],
-    token: usize,
-    mark: Said,
-) -> Result<Mark, AllocError>
-    ensures { IfOk result (λ m. mark_of m ≡ mark_at (map lexeme_view lexemes.now) token (said_mark mark)) }
-{
-    match mark {
-        Said::Plain => Ok(Mark::Plain),
-        Said::Labelled(_) => Ok(Mark::Labelled(Vec::from_slice(heap, name_at(lexemes, token))?)),
-        Said::Flagged(_) => Ok(Mark::Flagged(Vec::from_slice(heap, name_at(lexemes, token))?)),
+impl<'a> Scope<'a> {
+    /// The mark of a check, with its label at a token.
+    pub(crate) fn labelled(&self, token: usize, mark: Said) -> Result<Mark, AllocError>
+        ensures { IfOk result (λ m. mark_of m ≡ mark_at (tokens_of self.now) token (said_mark mark)) }
+    {
+        let label = self.name_at(token);
+        match mark {
+            Said::Plain => Ok(Mark::Plain),
+            Said::Labelled(_) => Ok(Mark::Labelled(Vec::from_slice(self.heap, label)?)),
+            Said::Flagged(_) => Ok(Mark::Flagged(Vec::from_slice(self.heap, label)?)),
+        }
     }
 }

@@ -1,9 +1,11 @@
 //! Names: which are given, and which binding one means.
-ghost use Rattle.std.specs.Prelude.{◌≡◌, map, is_some};
+ghost use Rattle.std.specs.Prelude.{◌≡◌, [], map, is_some};
 ghost use Rattle.token.specs.Views.{view, lexeme_view};
 ghost use Rattle.term.specs.Terms.{term_of};
+ghost use Rattle.cat.specs.Placing.{tokens_of, bound_of};
 ghost use Rattle.cat.specs.Scopes.{name_of, name_at, beside, given_as, latest, names_of, name_term, among};
 
+use std::alloc::Global;
 use term::{Given, Term};
 use token::{Lexeme, Token};
 
@@ -35,15 +37,6 @@ fn name_of<'a>(token: Token<'a>) -> &'a [u8]
     }
 }
 
-/// The bytes of the name at a token; none where no name stands.
-pub(crate) fn name_at<'a>(lexemes: &[Lexeme<'a>], token: usize) -> &'a [u8]
-    ensures { result.now ≡ name_at (map lexeme_view lexemes.now) token }
-{
-    lexemes
-        .get(token)
-        .map_or(b"", |lexeme| name_of(lexeme.token))
-}
-
 /// What stands beside a name in a table.
 fn beside(table: &[(&[u8], Given)], name: &[u8]) -> Option<Given>
     ensures { result ≡ beside name.now (map (λ e. (e.0.now, e.1)) table.entry.now) }
@@ -61,22 +54,6 @@ fn given_as(name: &[u8]) -> Option<Given>
     beside(&GIVEN, name)
 }
 
-/// The number of the latest binding of a name; bound names are listed by their tokens.
-fn latest<'a>(lexemes: &[Lexeme<'a>], bound: &[usize], name: &[u8]) -> Option<usize>
-    ensures { result ≡ latest name.now (names_of (map lexeme_view lexemes.now) bound.now) }
-{
-    bound
-        .iter()
-        .rposition(|token| name == name_at(lexemes, *token))
-}
-
-/// Whether a name is among those at some tokens.
-pub(crate) fn is_bound<'a>(lexemes: &[Lexeme<'a>], bound: &[usize], name: &[u8]) -> bool
-    ensures { result ≡ among name.now (names_of (map lexeme_view lexemes.now) bound.now) }
-{
-    latest(lexemes, bound, name).is_some()
-}
-
 /// Whether something is given under a name.
 pub(crate) fn is_given(name: &[u8]) -> bool
     ensures { result ≡ is_some (given_as name.now) }
@@ -84,16 +61,61 @@ pub(crate) fn is_given(name: &[u8]) -> bool
     given_as(name).is_some()
 }
 
-/// What the name at a token means, where these names are bound.
-pub(crate) fn name_term<'a>(lexemes: &[Lexeme<'a>], bound: &[usize], token: usize) -> Term
-    ensures { term_of result ≡ name_term token (name_at (map lexeme_view lexemes.now) token) (names_of (map lexeme_view lexemes.now) bound.now) }
-{
-    let name = name_at(lexemes, token);
-    if let Some(given) = given_as(name) {
-        return Term::Given(given);
+/// The tokens of a text, and the names that are bound so far, by their tokens.
+#[derive(Drop)]
+pub(crate) struct Scope<'a> {
+    pub(crate) heap: Global,
+    pub(crate) lexemes: &'a [Lexeme<'a>],
+    pub(crate) bound: Vec<usize>,
+}
+
+impl<'a> Scope<'a> {
+    /// The tokens of a text, where nothing is bound yet.
+    pub(crate) fn new(heap: Global, lexemes: &'a [Lexeme<'a>]) -> Scope<'a>
+        ensures tokens { tokens_of result ≡ map lexeme_view lexemes.now }
+        ensures bound { bound_of result ≡ [] }
+    {
+        Scope {
+            heap,
+            lexemes,
+            bound: Vec::new(heap),
+        }
     }
-    match latest(lexemes, bound, name) {
-        Some(number) => Term::Bound(token, number),
-        None => Term::Unbound(token),
+
+    /// The bytes of the name at a token; none where no name stands.
+    pub(crate) fn name_at(&self, token: usize) -> &'a [u8]
+        ensures { result.now ≡ name_at (tokens_of self.now) token }
+    {
+        self.lexemes
+            .get(token)
+            .map_or(b"", |lexeme| name_of(lexeme.token))
+    }
+
+    /// The number of the latest of some names that is this one; they are listed by their tokens.
+    fn latest(&self, names: &[usize], name: &[u8]) -> Option<usize>
+        ensures { result ≡ latest name.now (names_of (tokens_of self.now) names.now) }
+    {
+        names.iter().rposition(|token| name == self.name_at(*token))
+    }
+
+    /// Whether a name is among those at some tokens.
+    pub(crate) fn is_among(&self, names: &[usize], name: &[u8]) -> bool
+        ensures { result ≡ among name.now (names_of (tokens_of self.now) names.now) }
+    {
+        self.latest(names, name).is_some()
+    }
+
+    /// What the name at a token means.
+    pub(crate) fn name_term(&self, token: usize) -> Term
+        ensures { term_of result ≡ name_term token (name_at (tokens_of self.now) token) (names_of (tokens_of self.now) (bound_of self.now)) }
+    {
+        let name = self.name_at(token);
+        if let Some(given) = given_as(name) {
+            return Term::Given(given);
+        }
+        match self.latest(self.bound.as_slice(), name) {
+            Some(number) => Term::Bound(token, number),
+            None => Term::Unbound(token),
+        }
     }
 }
