@@ -239,10 +239,10 @@ tally_judged base ss o t =
       );
     }
 
-pub judged : (base : given_base.Base) (ss : List Statement) (values : List Value) (many : ℕ) (o : Outcome) → Known base ss values many → Totalled (base_meaning base) (map value_meaning (take many values)) ss o → WithinLimits ss → Judged (base_meaning base) ss o
-judged base ss values many o known total limits =
-    let ks = map value_meaning (take many values) in
+pub judged : (base : given_base.Base) (ss : List Statement) (values : List Value) (o : Outcome) → Known base ss values → Totalled (base_meaning base) (map value_meaning values) ss o → WithinLimits ss → Judged (base_meaning base) ss o
+judged base ss values o known total limits =
+    let ks = map value_meaning values in
     let js = bindings_mean (base_meaning base) [] ss in
-    let same = mean_same (take many values) js (known.means limits.denied limits.bindings) in
+    let same = mean_same values js (known limits.denied limits.bindings) in
     tally_judged (base_meaning base) ss o
     (tally_as (Good (base_meaning base) ks) (Good (base_meaning base) js) (λ c. (good_as (base_meaning base) ks js same c, good_as (base_meaning base) js ks (same_all_sym ks js same) c)) (claims ss) o (total limits.checks))

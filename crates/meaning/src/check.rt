@@ -7,9 +7,10 @@ ghost use Rattle.meaning.specs.Tables.{value_meaning};
 ghost use Rattle.meaning.specs.Outcomes.{Good, Tallied, Totalled, WithinLimits, Judged};
 
 use super::bindings::evaluate_bindings;
-use super::evaluate::evaluate;
 use super::operate::pairs_in;
 use super::outcome::Outcome;
+use super::setting::Setting;
+use super::values::Values;
 use given::Base;
 use relation::{Kind, Value, mask};
 use sentence::sign::Word;
@@ -45,10 +46,10 @@ fn is_as_asked(word: Word, value: Value) -> bool
 }
 
 /// Whether a check holds, where the bindings have these values.
-pub fn holds(base: &Base, known: &[Value], check: &Check) -> bool
-    ensures { Decides result (Good (base_meaning base.now) (map value_meaning known.now) (claim_of check.now)) }
+pub fn holds(setting: &Setting<'_>, check: &Check) -> bool
+    ensures { Decides result (Good (base_meaning setting.now.base.now) (map value_meaning setting.now.known.now) (claim_of check.now)) }
 {
-    let asked = is_as_asked(check.word, evaluate(base, known, &[], &check.term));
+    let asked = is_as_asked(check.word, setting.evaluate(&[], &check.term));
     asked != check.negated
 }
 
@@ -66,21 +67,15 @@ fn counted(number: u8, statement: &Statement) -> u8
 }
 
 /// The outcome of so many checks, with that of a statement behind them.
-fn tried(
-    outcome: Outcome,
-    number: u8,
-    base: &Base,
-    known: &[Value],
-    statement: &Statement,
-) -> Outcome
-    ensures { Tallied (base_meaning base.now) (map value_meaning known.now) (statement_of statement.now) number outcome result }
+fn tried(outcome: Outcome, number: u8, setting: &Setting<'_>, statement: &Statement) -> Outcome
+    ensures { Tallied (base_meaning setting.now.base.now) (map value_meaning setting.now.known.now) (statement_of statement.now) number outcome result }
 {
     match statement {
         Statement::Let(_) => outcome,
         Statement::Group(_) => outcome,
         Statement::Check(check) => {
             if number < 16 {
-                outcome.with(number, is_flag(&check.mark), holds(base, known, check))
+                outcome.with(number, is_flag(&check.mark), holds(setting, check))
             } else {
                 outcome
             }
@@ -89,23 +84,24 @@ fn tried(
 }
 
 /// The outcome of the checks, where the bindings have these values.
-fn try_all(base: &Base, known: &[Value], statements: &[Statement]) -> Outcome
-    ensures { Totalled (base_meaning base.now) (map value_meaning known.now) (statements_of statements.now) result }
+fn try_all(setting: &Setting<'_>, statements: &[Statement]) -> Outcome
+    ensures { Totalled (base_meaning setting.now.base.now) (map value_meaning setting.now.known.now) (statements_of statements.now) result }
 {
     let mut outcome = Outcome::none();
     let mut number = 0;
     for statement in statements {
-        outcome = tried(outcome, number, base, known, statement);
+        outcome = tried(outcome, number, setting, statement);
         number = counted(number, statement);
     }
     outcome
 }
 
 /// What comes of trying the checks of a model by what is given: the first without flag that does not hold, and a bit for
-/// each flag that holds. The table is working space.
-pub fn try_checks(base: &Base, statements: &[Statement], values: &mut [Value; 64]) -> Outcome
+/// each flag that holds. The values are working space.
+pub fn try_checks(base: &Base, statements: &[Statement], values: &mut Values) -> Outcome
     ensures { WithinLimits (statements_of statements.now) → Judged (base_meaning base.now) (statements_of statements.now) result }
 {
-    let many = evaluate_bindings(base, statements, values);
-    try_all(base, &values[..many], statements)
+    evaluate_bindings(base, statements, values);
+    let known = values.as_slice();
+    try_all(&Setting { base, known }, statements)
 }

@@ -6,4 +6,4 @@ use Rattle.meaning.proofs.Tallying.{Trying}
 use Rattle.meaning.proofs.check.try_all.Given as goal
 
 abbrev pub invariant-loop-statement : goal.invariant-loop-statement
-invariant-loop-statement l = Trying (base_meaning l.base) (map value_meaning l.known) (statements_of l.statements) l.statement-index l.number l.outcome
+invariant-loop-statement l = Trying (base_meaning l.setting.base.now) (map value_meaning l.setting.known.now) (statements_of l.statements) l.statement-index l.number l.outcome

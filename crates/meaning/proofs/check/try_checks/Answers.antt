@@ -3,5 +3,4 @@ use Rattle.meaning.proofs.Tallying.{judged}
 use Rattle.meaning.proofs.check.try_checks.Goals as goal
 
 pub returns : goal.returns
-returns c =
-    judged c.args.base.now (statements_of c.args.statements.now) c.evaluate_bindings-many.new.values c.evaluate_bindings-many.result c.try_all.result c.evaluate_bindings-many.ensures c.try_all.ensures
+returns c = judged c.args.base.now (statements_of c.args.statements.now) c.evaluate_bindings.new.values c.try_all.result c.evaluate_bindings.ensures (rw c.as_slice-known.ensures.value at c.try_all.ensures)
