@@ -42,8 +42,10 @@ impl<'a, 'b> Equations for Group<'a, 'b> {
     fn value(&self, found: &[Relation; 64], slot: usize) -> Relation {
         match self.bindings.get(slot) {
             Some(binding) => {
+                // A copy: where the group's own is lent, each round copies the table once more, a fifth of the time.
+                let setting = self.setting;
                 let found = &found[..self.count()];
-                pairs_in(self.setting.evaluate(found, &binding.term))
+                pairs_in(setting.evaluate(found, &binding.term))
             }
             None => Relation::none(),
         }
