@@ -15,7 +15,7 @@ use Rattle.meaning.specs.Tables.{value_meaning, AllMean}
 use Rattle.meaning.specs.Knowns.{Added, Known}
 use Rattle.meaning.specs.Rising.{empty_parts}
 use Rattle.meaning.specs.Placed.{at_map}
-use Rattle.meaning.proofs.Knowing.{mean_none, mean_same, mean_as, after_same}
+use Rattle.meaning.proofs.Knowing.{mean_none, mean_same, mean_as, after_same, added_length}
 
 -- what is read at a place stands there in the mapped list
 pub at_read : {A B : Type 0} (f : A → B) (xs : List A) (i : ℕ) (x : A) → i < length xs → x ≡ get_or xs i x → At (map f xs) i (f x)
@@ -60,33 +60,25 @@ denied_at n (x ∷ ss) (suc i) s h e =
     (denied_at (n + binds x) ss i s h (empty_parts (statement_denied n x) (all_denied (n + binds x) ss) e).1)
 
 -- so many statements are gone through
-pub record Going (base : given_base.Base) (ss : List Statement) (i many : ℕ) (values : List Value) : Type 0 where
-  pub long : length values ≡ 64
-  pub room : many ≤ 64
-  pub known : all_denied 0 ss ≡ [] → many_bindings ss ≤ 64 → (many ≡ many_bindings (take i ss)) × AllMean (take many values) (bindings_mean (base_meaning base) [] (take i ss))
+abbrev pub Going : given_base.Base → List Statement → ℕ → List Value → Type 0
+Going base ss i values = all_denied 0 ss ≡ [] → many_bindings ss ≤ 64 → (length values ≡ many_bindings (take i ss)) × AllMean values (bindings_mean (base_meaning base) [] (take i ss))
 
-pub going_none : (base : given_base.Base) (ss : List Statement) (values : List Value) → length values ≡ 64 → Going base ss 0 0 values
+pub going_none : (base : given_base.Base) (ss : List Statement) {values : List Value} → values ≡ [] → Going base ss 0 values
 unfolding many_bindings bindings_mean
-going_none base ss values long = record { long = long; room = omega arith; known = λ d b. (refl, mean_none) }
+going_none base ss e = subst⁻¹ (Going base ss 0) e (λ d b. (refl, mean_none))
 
-pub going_more : (base : given_base.Base) (ss : List Statement) (i many more : ℕ) (values new : List Value) (s : Statement) → At ss i s → Going base ss i many values → Added base s values many new more → length new ≡ 64 → Going base ss (i + 1) more new
-going_more base ss i many more values new s at g a long =
-    record {
-      long = long;
-      room = a.room;
-      known = λ d b.
-          let p = g.known d b in
-          let K = map value_meaning (take many values) in
-          let J = bindings_mean (base_meaning base) [] (take i ss) in
-          let fine : statement_denied many s ≡ [] = subst (λ m. statement_denied m s ≡ []) (let z : 0 + many_bindings (take i ss) ≡ many = omega (arith, p.0) in z) (denied_at 0 ss i s at d) in
-          let few : many + binds s ≤ 64 = omega (arith, p.0, many_at ss i s at, b) in
-          let list = take_at ss i s at in (
-            a.count few ∙ ap (λ m. m + binds s) p.0 ∙ sym (many_push (take i ss) s) ∙ ap many_bindings (sym list),
-            subst⁻¹ (λ ks. AllMean (take more new) ks) (ap (bindings_mean (base_meaning base) []) list ∙ bindings_push (base_meaning base) [] (take i ss) s)
-                (mean_as (take more new) (known_after (base_meaning base) K s) (known_after (base_meaning base) J s) (a.known fine few) (after_same (base_meaning base) K J (mean_same (take many values) J p.1) s)),
-          );
-    }
+pub going_more : (base : given_base.Base) (ss : List Statement) (i : ℕ) (values new : List Value) (s : Statement) → At ss i s → Going base ss i values → Added base s values new → Going base ss (i + 1) new
+going_more base ss i values new s at g added d b =
+    let p = g d b in
+    let K = map value_meaning values in
+    let J = bindings_mean (base_meaning base) [] (take i ss) in
+    let fine : statement_denied (length values) s ≡ [] = subst (λ m. statement_denied m s ≡ []) (let z : 0 + many_bindings (take i ss) ≡ length values = omega (arith, p.0) in z) (denied_at 0 ss i s at d) in
+    let known = added fine (omega (arith, p.0, many_at ss i s at, b)) in
+    let list = take_at ss i s at in (
+      added_length base s values new known ∙ ap (λ m. m + binds s) p.0 ∙ sym (many_push (take i ss) s) ∙ ap many_bindings (sym list),
+      subst⁻¹ (λ ks. AllMean new ks) (ap (bindings_mean (base_meaning base) []) list ∙ bindings_push (base_meaning base) [] (take i ss) s)
+          (mean_as new (known_after (base_meaning base) K s) (known_after (base_meaning base) J s) known (after_same (base_meaning base) K J (mean_same values J p.1) s)),
+    )
 
-pub going_done : (base : given_base.Base) (ss : List Statement) (i many : ℕ) (values : List Value) → length ss ≤ i → Going base ss i many values → Known base ss values many
-going_done base ss i many values l g =
-    record { room = g.room; means = λ d b. subst (λ xs. AllMean (take many values) (bindings_mean (base_meaning base) [] xs)) (take_all i ss l) (g.known d b).1 }
+pub going_done : (base : given_base.Base) (ss : List Statement) (i : ℕ) (values : List Value) → length ss ≤ i → Going base ss i values → Known base ss values
+going_done base ss i values l g d b = subst (λ xs. AllMean values (bindings_mean (base_meaning base) [] xs)) (take_all i ss l) (g d b).1

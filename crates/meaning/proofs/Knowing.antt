@@ -1,14 +1,14 @@
 -- Tables of values that mean what bindings mean. Assumes nothing.
-use Rattle.std.proofs.Common.{◌≡◌, ℕ, zero, suc, ◌+◌, ◌-◌, ◌<◌, ◌≤◌, min, List, [], ◌∷◌, ◌++◌, map, length, get_or, take, set, sym, refl, ap, ◌∙◌, subst, append_assoc, arith}
+use Rattle.std.proofs.Common.{◌≡◌, ℕ, zero, suc, ◌+◌, ◌-◌, ◌<◌, ◌≤◌, min, List, [], ◌∷◌, ◌++◌, map, length, get_or, take, sym, refl, ap, ◌∙◌, subst, append_assoc, arith}
 use mathlib.Core.Path.{subst⁻¹}
 use lib.ListN.{length-map}
-use Rattle.std.proofs.lemmas.List.{append-nil, take_more, take_more_set, map-append, length-take-le, length-set}
+use Rattle.std.proofs.lemmas.List.{append-nil, take_more, take_all, map-append, length-append, length-take-le}
 use Rattle.relation.specs.declared.relation.Relation.{Relation}
 use Rattle.relation.specs.declared.value.Value.{Value}
 use Rattle.relation.specs.Relations.{Pairs, SamePairs}
 use Rattle.relation.specs.Values.{Meaning, Means}
 use Rattle.term.specs.Statements.{Binding, Claim, Statement, lets, groups, checks}
-use Rattle.term.specs.Recursion.{group_denied}
+use Rattle.term.specs.Recursion.{binds}
 use Rattle.given.specs.declared.base.Base as given_base
 use Rattle.given.specs.Bases.{Same, base_meaning}
 use Rattle.meaning.specs.Meanings.{Base, meaning}
@@ -106,30 +106,39 @@ pub mean_none : AllMean [] []
 unfolding AllMean
 mean_none = tt
 
--- the relations that are put into a table
-abbrev pub Putting : ℕ → ℕ → List Value → List Value → List Relation → Type 0
-Putting many slot old values found = (length values ≡ 64) × AllMean (take (many + slot) values) (map value_meaning (take many old) ++ map relation_meaning (take slot found))
+-- as many values as meanings
+all_mean_length : (vs : List Value) (ms : List Meaning) → AllMean vs ms → length vs ≡ length ms
+unfolding AllMean
+all_mean_length [] [] h = refl
+all_mean_length [] (m ∷ ms) h = absurd h
+all_mean_length (v ∷ vs) [] h = absurd h
+all_mean_length (v ∷ vs) (m ∷ ms) h = ap suc (all_mean_length vs ms h.1)
 
-pub putting_none : (many : ℕ) (values : List Value) (found : List Relation) → length values ≡ 64 → Putting many 0 values values found
-putting_none many values found long = (
-  long,
-  subst (λ n. AllMean (take n values) (map value_meaning (take many values) ++ [])) (let z : many ≡ many + 0 = omega arith in z)
-      (subst⁻¹ (λ ms. AllMean (take many values) ms) (append-nil (map value_meaning (take many values))) (mean_self (take many values))),
-)
+-- relations that are put behind values
+abbrev pub Putting : List Value → List Value → List Relation → Type 0
+Putting old values front = length old + length front ≤ 64 → AllMean values (map value_meaning old ++ map relation_meaning front)
 
-pub putting_more : (many slot : ℕ) (old values : List Value) (found : List Relation) (v : Value) (d : Relation) → many + slot < 64 → slot < length found → Putting many slot old values found → Means v (relation_meaning (get_or found slot d)) → Putting many (slot + 1) old (set values (many + slot) v) found
-putting_more many slot old values found v d l k h m =
-    let K = map value_meaning (take many old) in
-    let front = map relation_meaning (take slot found) in
-    let new = relation_meaning (get_or found slot d) in
-    let list : take (many + (slot + 1)) (set values (many + slot) v) ≡ take (many + slot) values ++ v ∷ [] =
-    ap (λ n. take n (set values (many + slot) v)) (let z : many + (slot + 1) ≡ many + slot + 1 = omega arith in z) ∙ take_more_set values (many + slot) v (omega (arith, h.0)) in
-    let meanings : K ++ map relation_meaning (take (slot + 1) found) ≡ (K ++ front) ++ new ∷ [] =
-    ap (λ xs. K ++ map relation_meaning xs) (take_more found slot d k) ∙ ap (λ xs. K ++ xs) (map-append relation_meaning (take slot found) (get_or found slot d ∷ [])) ∙ sym (append_assoc K front (new ∷ [])) in (
-      length-set values (many + slot) v ∙ h.0,
-      subst⁻¹ (λ xs. AllMean xs (K ++ map relation_meaning (take (slot + 1) found))) list
-          (subst⁻¹ (λ ms. AllMean (take (many + slot) values ++ v ∷ []) ms) meanings (mean_push (take (many + slot) values) (K ++ front) v new h.1 m)),
-    )
+pub putting_none : (values : List Value) → Putting values values []
+putting_none values few = subst⁻¹ (λ ms. AllMean values ms) (append-nil (map value_meaning values)) (mean_self values)
+
+pub putting_more : (old values new : List Value) (found : List Relation) (i : ℕ) (v : Value) (d : Relation) → i < length found → Putting old values (take i found) → (length values < 64 → new ≡ values ++ v ∷ []) → Means v (relation_meaning (get_or found i d)) → Putting old new (take (i + 1) found)
+putting_more old values new found i v d l p push m few =
+    let K = map value_meaning old in
+    let front = take i found in
+    let r = get_or found i d in
+    let list = take_more found i d l in
+    let long = length-take-le i found (omega (arith, l)) in
+    let longer = length-take-le (i + 1) found (omega (arith, l)) in
+    let before = p (omega (arith, few, long, longer)) in
+    let size = all_mean_length values (K ++ map relation_meaning front) before ∙ length-append K (map relation_meaning front) in
+    let room : length values < 64 = omega (arith, few, long, longer, size, length-map old value_meaning, length-map front relation_meaning) in
+    let meanings : K ++ map relation_meaning (take (i + 1) found) ≡ (K ++ map relation_meaning front) ++ relation_meaning r ∷ [] =
+    ap (λ xs. K ++ map relation_meaning xs) list ∙ ap (λ xs. K ++ xs) (map-append relation_meaning front (r ∷ [])) ∙ sym (append_assoc K (map relation_meaning front) (relation_meaning r ∷ [])) in
+    subst⁻¹ (λ ms. AllMean new ms) meanings
+    (subst⁻¹ (λ xs. AllMean xs ((K ++ map relation_meaning front) ++ relation_meaning r ∷ [])) (push room) (mean_push values (K ++ map relation_meaning front) v (relation_meaning r) before m))
+
+pub putting_done : (old values : List Value) (found : List Relation) (i : ℕ) → length found ≤ i → Putting old values (take i found) → Putting old values found
+putting_done old values found i l p = subst (Putting old values) (take_all i found l) p
 
 -- a term and a least solution under the same meanings
 pub term_same : (base : Base) (ks js : List Meaning) → SameAll ks js → (b : Binding) → Same (meaning base ks b.term) (meaning base js b.term)
@@ -157,46 +166,40 @@ after_same base ks js h (lets b) = same_all_append ks js (meaning base ks b.term
 after_same base ks js h (groups bs) = same_all_append ks js (as_meanings (least base ks bs) 0 bs) (as_meanings (least base js bs) 0 bs) h (as_same_all (least base ks bs) (least base js bs) (least_same base ks js bs h) 0 bs)
 after_same base ks js h (checks c) = h
 
--- a let is added
-pub added_let : (base : given_base.Base) (b : Binding) (values : List Value) (many : ℕ) (v : Value) → many < 64 → length values ≡ 64 → Means v (meaning (base_meaning base) (map value_meaning (take many values) ++ []) b.term) → Added base (lets b) values many (set values many v) (many + 1)
-added_let base b values many v l long m =
-    let K = map value_meaning (take many values) in
-    record {
-      room = omega arith;
-      count = λ _. refl;
-      known = λ _ _.
-          subst⁻¹ (λ xs. AllMean xs (K ++ meaning (base_meaning base) K b.term ∷ [])) (take_more_set values many v (omega arith))
-          (mean_push (take many values) K v (meaning (base_meaning base) K b.term) (mean_self (take many values)) (subst (λ ks. Means v (meaning (base_meaning base) ks b.term)) (append-nil K) m));
-    }
+-- how many are known behind a statement
+pub length_after : (base : Base) (known : List Meaning) (s : Statement) → length (known_after base known s) ≡ length known + binds s
+length_after base known (lets b) = length-append known (meaning base known b.term ∷ [])
+length_after base known (groups bs) = length-append known (as_meanings (least base known bs) 0 bs) ∙ ap (λ n. length known + n) (length_names (least base known bs) 0 bs)
+length_after base known (checks c) = let z : length known ≡ length known + 0 = omega arith in z
 
--- no room for it
-pub full_let : (base : given_base.Base) (b : Binding) (values new : List Value) (many : ℕ) → 64 ≤ many → Added base (lets b) values many new 64
-full_let base b values new many l = record { room = omega arith; count = λ h. omega (arith, h); known = λ _ h. absurd (omega (arith, h)) }
+-- so many more values
+pub added_length : (base : given_base.Base) (s : Statement) (old new : List Value) → AllMean new (known_after (base_meaning base) (map value_meaning old) s) → length new ≡ length old + binds s
+added_length base s old new h =
+    let K = map value_meaning old in
+    omega (arith, all_mean_length new (known_after (base_meaning base) K s) h, length_after (base_meaning base) K s, length-map old value_meaning)
+
+-- a let is added
+pub added_let : (base : given_base.Base) (b : Binding) (old new : List Value) (v : Value) → (length old < 64 → new ≡ old ++ v ∷ []) → Means v (meaning (base_meaning base) (map value_meaning old ++ []) b.term) → Added base (lets b) old new
+added_let base b old new v push m fine few =
+    let K = map value_meaning old in
+    subst⁻¹ (λ xs. AllMean xs (K ++ meaning (base_meaning base) K b.term ∷ [])) (push (omega (arith, few)))
+    (mean_push old K v (meaning (base_meaning base) K b.term) (mean_self old) (subst (λ ks. Means v (meaning (base_meaning base) ks b.term)) (append-nil K) m))
 
 -- a group is added
-pub added_group : (base : given_base.Base) (bs : List Binding) (values new : List Value) (found : List Relation) (many count more : ℕ) → many ≤ 64 → length values ≡ 64 → length found ≡ 64 → count ≡ min (length bs) (64 - many) → more ≡ many + count → Least (record { base = base; known = take many values; bindings = bs }) found → AllMean (take more new) (map value_meaning (take many values) ++ map relation_meaning (take count found)) → Added base (groups bs) values many new more
-added_group base bs values new found many count more l long wide c e s h =
-    record {
-      room = omega arith;
-      count = λ k. omega (arith, k);
-      known = λ pos k.
-          let K = map value_meaning (take many values) in
-          let same : length (take many values) ≡ many = length-take-le many values (omega arith) in
-          let fine = subst⁻¹ (λ n. group_denied n (length bs) bs ≡ []) same pos in
-          let few : length bs ≤ 64 = omega (arith, k) in
-          let all : count ≡ length bs = omega (arith, k) in
-          let least-of = least (base_meaning base) K bs in
-          mean_as (take more new) (K ++ map relation_meaning (take count found)) (K ++ as_meanings least-of 0 bs) h
-          (same_all_append K K (map relation_meaning (take count found)) (as_meanings least-of 0 bs) (same_all_self K)
-          (same_all_trans (map relation_meaning (take count found)) (as_meanings (Table found) 0 bs) (as_meanings least-of 0 bs)
-          (same_all_from (map relation_meaning (take count found)) (as_meanings (Table found) 0 bs)
-          (length-map (take count found) relation_meaning ∙ length-take-le count found (omega (arith, all, few)) ∙ all ∙ sym (length_names (Table found) 0 bs))
-          (front_names found bs count wide (omega (arith, all, few))))
-          (as_same_all (Table found) least-of (λ j a b. (s.means fine few j a b, s.covers fine few j a b)) 0 bs)));
-    }
+pub added_group : (base : given_base.Base) (bs : List Binding) (old new : List Value) (found : List Relation) (count : ℕ) → count ≡ min (length bs) 64 → Least (record { base = base; known = old; bindings = bs }) found → Putting old new (take count found) → Added base (groups bs) old new
+added_group base bs old new found count c s put fine few =
+    let K = map value_meaning old in
+    let short : length bs ≤ 64 = omega (arith, few) in
+    let all : count ≡ length bs = omega (arith, c, short) in
+    let long = length-take-le count found (omega (arith, all, short, s.long)) in
+    let least-of = least (base_meaning base) K bs in
+    mean_as new (K ++ map relation_meaning (take count found)) (K ++ as_meanings least-of 0 bs) (put (omega (arith, long, all, few)))
+    (same_all_append K K (map relation_meaning (take count found)) (as_meanings least-of 0 bs) (same_all_self K)
+    (same_all_trans (map relation_meaning (take count found)) (as_meanings (Table found) 0 bs) (as_meanings least-of 0 bs)
+    (same_all_from (map relation_meaning (take count found)) (as_meanings (Table found) 0 bs)
+    (length-map (take count found) relation_meaning ∙ long ∙ all ∙ sym (length_names (Table found) 0 bs)) (front_names found bs count s.long c))
+    (as_same_all (Table found) least-of (λ j a b. (s.means fine short j a b, s.covers fine short j a b)) 0 bs)))
 
 -- a check adds nothing
-pub added_check : (base : given_base.Base) {s : Statement} (c : Claim) (values : List Value) (many : ℕ) → s ≡ checks c → many ≤ 64 → Added base s values many values many
-added_check base c values many e l =
-    subst⁻¹ (λ s. Added base s values many values many) e
-    (record { room = l; count = λ _. let z : many ≡ many + 0 = omega arith in z; known = λ _ _. mean_self (take many values) })
+pub added_check : (base : given_base.Base) {s : Statement} (c : Claim) (values : List Value) → s ≡ checks c → Added base s values values
+added_check base c values e = subst⁻¹ (λ s. Added base s values values) e (λ _ _. mean_self values)

@@ -1,7 +1,10 @@
 -- Checks tried one by one. Assumes nothing.
-use Rattle.std.proofs.Common.{◌≡◌, ℕ, zero, suc, ◌+◌, ◌*◌, ◌%◌, ◌^◌, ◌<◌, ◌≤◌, Bool, true, false, not, ◌&&◌, ◌⊎◌, ◌↔◌, List, [], ◌∷◌, ◌++◌, map, length, take, drop, Some, None, Decides, Option, sym, refl, ap, ◌∙◌, subst, inl, inr, ⊎_elim, arith, take-append-drop}
+use Rattle.std.proofs.Common.{◌≡◌, ℕ, zero, suc, ◌+◌, ◌*◌, ◌%◌, ◌^◌, ◌<◌, ◌≤◌, Bool, true, false, not, ◌&&◌, ◌⊎◌, ◌↔◌, List, [], ◌∷◌, ◌++◌, map, min, length, get_or, take, Some, None, Decides, Option, sym, refl, ap, ◌∙◌, subst, inl, inr, ⊎_elim, arith}
 use mathlib.Core.Path.{subst⁻¹}
-use Rattle.std.proofs.lemmas.List.{append-nil, length-append, take_all}
+use Rattle.std.specs.List.{zip, filter_map, range_with_len}
+use Rattle.std.proofs.lemmas.List.{take_all, take_more, length-take-le, length_push}
+use Rattle.std.proofs.lemmas.List.FromFn.{get_or-range_with_len}
+use Rattle.std.proofs.lemmas.Slice.Zip.{get_or-zip, length-zip}
 use Rattle.std.proofs.lemmas.Bool.{and_parts, and_from, both_ways}
 use Rattle.finite.specs.Lists.{At}
 use Rattle.relation.specs.declared.value.Value.{Value}
@@ -9,7 +12,9 @@ use Rattle.relation.specs.Sets.{Either}
 use Rattle.relation.specs.Masks.{Member, Marks}
 use Rattle.relation.specs.Values.{Meaning}
 use Rattle.relation.specs.Bits.{in_nothing, in_power}
-use Rattle.term.specs.Statements.{Binding, Claim, Statement, lets, groups, checks, claims}
+use Rattle.term.specs.Statements.{Claim, Statement, claim_of, statement_of, statements_of, claims}
+use Rattle.term.specs.declared.statement.Statement as program
+use Rattle.term.specs.declared.statement.Statement.TheVariants.{Let, Group, Check}
 use Rattle.given.specs.declared.base.Base as given_base
 use Rattle.given.specs.Bases.{base_meaning}
 use Rattle.meaning.specs.declared.outcome.Outcome.{Outcome}
@@ -18,10 +23,9 @@ use Rattle.meaning.specs.Groups.{bindings_mean}
 use Rattle.meaning.specs.Checks.{is_flag}
 use Rattle.meaning.specs.Tables.{value_meaning}
 use Rattle.meaning.specs.Knowns.{Known}
-use Rattle.meaning.specs.Outcomes.{Good, first_of, RaisesBit, Tally, Tallied, Totalled, WithinLimits, Judged}
+use Rattle.meaning.specs.Outcomes.{Good, claim_in, first_of, RaisesBit, Tally, Totalled, WithinLimits, Judged}
 use Rattle.meaning.specs.Placed.{at_below}
 use Rattle.meaning.proofs.Knowing.{mean_same, same_all_sym}
-use Rattle.meaning.proofs.Gone.{take_at}
 use Rattle.meaning.proofs.Asking.{good_as}
 
 module _ {A : Type 0} where
@@ -152,77 +156,58 @@ module _ (P : Claim → Type 0) where
         );
       }
 
--- the checks of a statement: none, or one
-pub claims_let : {s : Statement} {b : Binding} → s ≡ lets b → claims (s ∷ []) ≡ []
+-- the check that a statement of the program is
+abbrev pub claim_at : program.Statement → Option Claim
+claim_at s = claim_in (statement_of s)
+
+-- the checks among statements, as `filter_map` gives them
+claims_are : (ss : List program.Statement) → filter_map claim_at ss ≡ claims (statements_of ss)
 unfolding claims
-claims_let e = ap (λ x. claims (x ∷ [])) e
+claims_are [] = refl
+claims_are (Let b ∷ ss) = claims_are ss
+claims_are (Group bs ∷ ss) = claims_are ss
+claims_are (Check c ∷ ss) = ap (λ cs. claim_of c ∷ cs) (claims_are ss)
 
-pub claims_group : {s : Statement} {bs : List Binding} → s ≡ groups bs → claims (s ∷ []) ≡ []
-unfolding claims
-claims_group e = ap (λ x. claims (x ∷ [])) e
+-- the first 16 checks, with their numbers
+abbrev pub numbered : List program.Statement → List (ℕ × Claim)
+numbered ss = zip (range_with_len 0 16) (filter_map claim_at ss)
 
-pub claims_check : {s : Statement} {c : Claim} → s ≡ checks c → claims (s ∷ []) ≡ c ∷ []
-unfolding claims
-claims_check e = ap (λ x. claims (x ∷ [])) e
+many_numbered : (ss : List program.Statement) → length (numbered ss) ≡ min 16 (length (claims (statements_of ss)))
+many_numbered ss = length-zip (range_with_len 0 16) (filter_map claim_at ss) ∙ ap (λ cs. min 16 (length cs)) (claims_are ss)
 
-claims_append : (xs ys : List Statement) → claims (xs ++ ys) ≡ claims xs ++ claims ys
-unfolding claims
-claims_append [] ys = refl
-claims_append (lets b ∷ xs) ys = claims_append xs ys
-claims_append (groups bs ∷ xs) ys = claims_append xs ys
-claims_append (checks c ∷ xs) ys = ap (λ zs. c ∷ zs) (claims_append xs ys)
+-- a check and its number, behind so many
+pub record Turn (ss : List program.Statement) (n number : ℕ) (c : Claim) : Type 0 where
+  pub same : number ≡ n
+  pub few : n < 16
+  pub long : length (take n (claims (statements_of ss))) ≡ n
+  pub more : take (n + 1) (claims (statements_of ss)) ≡ take n (claims (statements_of ss)) ++ c ∷ []
 
--- how many checks are behind a statement
-pub count_none : (n : ℕ) (cs : List Claim) → cs ≡ [] → n ≡ n + length cs
-count_none n cs e = omega (arith, ap length e)
+pub turn_at : (ss : List program.Statement) (n number : ℕ) (c : Claim) → (n < length (numbered ss)) × ((number, c) ≡ get_or (numbered ss) n (number, c)) → Turn ss n number c
+turn_at ss n number c t =
+    let cs = claims (statements_of ss) in
+    let l = t.0 in
+    let few : n < 16 = omega (arith, l, many_numbered ss) in
+    let under : n < length cs = omega (arith, l, many_numbered ss) in
+    let e = t.1 ∙ get_or-zip (range_with_len 0 16) (filter_map claim_at ss) n (number, c) few (subst⁻¹ (λ xs. n < length xs) (claims_are ss) under) in
+    record {
+      same = let z : number ≡ 0 + n = ap (λ p. p.0) e ∙ get_or-range_with_len 0 16 n number few in omega arith;
+      few = few;
+      long = length-take-le n cs (omega (arith, under));
+      more = take_more cs n c under ∙ ap (λ x. take n cs ++ x ∷ []) (sym (ap (λ p. p.1) e ∙ ap (λ xs. get_or xs n c) (claims_are ss)));
+    }
 
-pub count_one : (n : ℕ) (cs : List Claim) {c : Claim} → cs ≡ c ∷ [] → n + 1 ≡ n + length cs
-count_one n cs e = omega (arith, ap length e)
+module _ {X : Type 0} (P : Claim → Type 0) (ss : List program.Statement) (gone : List X) where
+  -- one more check is tried
+  pub tried_more : (x : X) (number : ℕ) (c : Claim) (o r : Outcome) (flag good : Bool) → Turn ss (length gone) number c → flag ≡ is_flag c.mark → Decides good (P c) → r.failure ≡ first_of o.failure number (not flag && not good) → RaisesBit o.flags number (flag && good) r.flags
+      → Tally P (take (length gone) (claims (statements_of ss))) o → Tally P (take (length (gone ++ x ∷ [])) (claims (statements_of ss))) r
+  tried_more x number c o r flag good t mark decides failure raises tally =
+      let cs = claims (statements_of ss) in
+      subst⁻¹ (λ n. Tally P (take n cs) r) (length_push gone x)
+      (subst⁻¹ (λ xs. Tally P xs r) t.more (tally_more P (take (length gone) cs) c o r number flag good (t.long ∙ sym t.same) mark decides failure raises tally))
 
-pub count_over : (n : ℕ) (cs : List Claim) {c : Claim} → cs ≡ c ∷ [] → 16 ≤ n → n + length cs ≤ 16 → 16 ≡ n + length cs
-count_over n cs e l h = absurd (omega (arith, ap length e, l, h))
-
-module _ (base : Base) (known : List Meaning) where
-  -- a statement without a check
-  pub tallied_none : (s : Statement) (n : ℕ) (o : Outcome) → claims (s ∷ []) ≡ [] → Tallied base known s n o o
-  tallied_none s n o e cs long few t = subst⁻¹ (λ xs. Tally (Good base known) xs o) (ap (λ xs. cs ++ xs) e ∙ append-nil cs) t
-
-  -- a check
-  pub tallied_one : (s : Statement) (c : Claim) (n : ℕ) (flag good : Bool) (o r : Outcome) → claims (s ∷ []) ≡ c ∷ [] → flag ≡ is_flag c.mark → Decides good (Good base known c) → r.failure ≡ first_of o.failure n (not flag && not good) → RaisesBit o.flags n (flag && good) r.flags → Tallied base known s n o r
-  tallied_one s c n flag good o r e mark decides failure raises cs long few t =
-      subst⁻¹ (λ xs. Tally (Good base known) xs r) (ap (λ xs. cs ++ xs) e) (tally_more (Good base known) cs c o r n flag good long mark decides failure raises t)
-
-  -- a check too many
-  pub tallied_over : (s : Statement) (c : Claim) (n : ℕ) (o r : Outcome) → claims (s ∷ []) ≡ c ∷ [] → 16 ≤ n → Tallied base known s n o r
-  tallied_over s c n o r e l cs long few t = absurd (omega (arith, few, length-append cs (claims (s ∷ [])), ap length e, long, l))
-
-  -- so many statements are gone through
-  pub record Trying (ss : List Statement) (i n : ℕ) (o : Outcome) : Type 0 where
-    pub few : n ≤ 16
-    pub tally : length (claims ss) ≤ 16 → (n ≡ length (claims (take i ss))) × Tally (Good base known) (claims (take i ss)) o
-
-  pub trying_none : (ss : List Statement) (o : Outcome) → o.failure ≡ None → o.flags ≡ 0 → Trying ss 0 0 o
-  unfolding claims
-  trying_none ss o e f = record { few = omega arith; tally = λ _. (refl, tally_none (Good base known) o e f) }
-
-  pub trying_more : (ss : List Statement) (i n m : ℕ) (o r : Outcome) (s : Statement) → At ss i s → Trying ss i n o → Tallied base known s n o r → m ≤ 16 → (n + length (claims (s ∷ [])) ≤ 16 → m ≡ n + length (claims (s ∷ []))) → Trying ss (i + 1) m r
-  trying_more ss i n m o r s at t h few count =
-      record {
-        few = few;
-        tally = λ all.
-            let p = t.tally all in
-            let list : claims (take (i + 1) ss) ≡ claims (take i ss) ++ claims (s ∷ []) = ap claims (take_at ss i s at) ∙ claims_append (take i ss) (s ∷ []) in
-            let size = length-append (claims (take i ss)) (claims (s ∷ [])) in
-            let whole : length (claims ss) ≡ length (claims (take (i + 1) ss)) + length (claims (drop (i + 1) ss)) =
-            ap (λ xs. length (claims xs)) (sym (take-append-drop (i + 1) ss)) ∙ ap length (claims_append (take (i + 1) ss) (drop (i + 1) ss)) ∙ length-append (claims (take (i + 1) ss)) (claims (drop (i + 1) ss)) in
-            let room : length (claims (take i ss) ++ claims (s ∷ [])) ≤ 16 = omega (arith, whole, ap length list, all) in (
-              omega (arith, ap length list, size, p.0, count (omega (arith, room, size, p.0))),
-              subst⁻¹ (λ xs. Tally (Good base known) xs r) list (h (claims (take i ss)) (sym p.0) room p.1),
-            );
-      }
-
-  pub trying_done : (ss : List Statement) (i n : ℕ) (o : Outcome) → length ss ≤ i → Trying ss i n o → Totalled base known ss o
-  trying_done ss i n o l t all = subst (λ xs. Tally (Good base known) (claims xs) o) (take_all i ss l) (t.tally all).1
+  -- all are
+  pub tried_all : (o : Outcome) → length gone ≡ length (numbered ss) → Tally P (take (length gone) (claims (statements_of ss))) o → length (claims (statements_of ss)) ≤ 16 → Tally P (claims (statements_of ss)) o
+  tried_all o e tally few = subst (λ xs. Tally P xs o) (take_all (length gone) (claims (statements_of ss)) (omega (arith, e, many_numbered ss, few))) tally
 
 -- the outcome of the checks of a text is that of the text
 tally_judged : (base : Base) (ss : List Statement) (o : Outcome) → Tally (Good base (bindings_mean base [] ss)) (claims ss) o → Judged base ss o
@@ -239,10 +224,10 @@ tally_judged base ss o t =
       );
     }
 
-pub judged : (base : given_base.Base) (ss : List Statement) (values : List Value) (many : ℕ) (o : Outcome) → Known base ss values many → Totalled (base_meaning base) (map value_meaning (take many values)) ss o → WithinLimits ss → Judged (base_meaning base) ss o
-judged base ss values many o known total limits =
-    let ks = map value_meaning (take many values) in
+pub judged : (base : given_base.Base) (ss : List Statement) (values : List Value) (o : Outcome) → Known base ss values → Totalled (base_meaning base) (map value_meaning values) ss o → WithinLimits ss → Judged (base_meaning base) ss o
+judged base ss values o known total limits =
+    let ks = map value_meaning values in
     let js = bindings_mean (base_meaning base) [] ss in
-    let same = mean_same (take many values) js (known.means limits.denied limits.bindings) in
+    let same = mean_same values js (known limits.denied limits.bindings) in
     tally_judged (base_meaning base) ss o
     (tally_as (Good (base_meaning base) ks) (Good (base_meaning base) js) (λ c. (good_as (base_meaning base) ks js same c, good_as (base_meaning base) js ks (same_all_sym ks js same) c)) (claims ss) o (total limits.checks))

@@ -1,9 +1,9 @@
 -- What comes of trying the checks of a text. Assumes nothing.
-use Rattle.std.specs.Prelude.{◌≡◌, ℕ, ◌<◌, ◌≤◌, Bool, true, false, ◌⊎◌, ◌↔◌, List, [], ◌∷◌, ◌++◌, length, Some, None, Option}
+use Rattle.std.specs.Prelude.{◌≡◌, ℕ, ◌<◌, ◌≤◌, Bool, true, false, ◌⊎◌, ◌↔◌, List, [], ◌∷◌, length, Some, None, Option}
 use Rattle.finite.specs.Lists.{At}
 use Rattle.relation.specs.Masks.{Member}
 use Rattle.relation.specs.Values.{Meaning}
-use Rattle.term.specs.Statements.{Claim, Statement, claims}
+use Rattle.term.specs.Statements.{Binding, Claim, Statement, lets, groups, checks, claims}
 use Rattle.term.specs.Recursion.{all_denied, many_bindings}
 use Rattle.meaning.specs.declared.outcome.Outcome.{Outcome}
 use Rattle.meaning.specs.Meanings.{Base, meaning}
@@ -44,9 +44,11 @@ pub record Tally (P : Claim → Type 0) (cs : List Claim) (o : Outcome) : Type 0
   pub first : (k : ℕ) → o.failure ≡ Some k → First P cs k
   pub flags : (k : ℕ) → Member o.flags k ↔ Raised P cs k
 
--- the outcome of as many checks as the number, with those of a statement behind them: at most 16 in all
-abbrev pub Tallied : Base → List Meaning → Statement → ℕ → Outcome → Outcome → Type 0
-Tallied base known s number old new = (cs : List Claim) → length cs ≡ number → length (cs ++ claims (s ∷ [])) ≤ 16 → Tally (Good base known) cs old → Tally (Good base known) (cs ++ claims (s ∷ [])) new
+-- the check that a statement is
+abbrev pub claim_in : Statement → Option Claim
+claim_in (lets b) = None
+claim_in (groups bs) = None
+claim_in (checks c) = Some c
 
 -- the outcome of the checks of a text, if they are at most 16
 abbrev pub Totalled : Base → List Meaning → List Statement → Outcome → Type 0

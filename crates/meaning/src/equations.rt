@@ -5,10 +5,9 @@ ghost use Rattle.relation.specs.Masks.{Related};
 ghost use Rattle.term.specs.Statements.{binding_of};
 ghost use Rattle.meaning.specs.Systems.{System, Table, Body, slots};
 
-use super::evaluate::evaluate;
 use super::operate::pairs_in;
-use given::Base;
-use relation::{Relation, Value};
+use super::setting::Setting;
+use relation::Relation;
 use term::statement::Binding;
 
 /// Equations that can be evaluated: a term for each name of a group.
@@ -25,17 +24,16 @@ pub trait Equations {
         ensures { SamePairs (Related result.rows) (Body (system self.now) (Table found.now) slot) };
 }
 
-/// A group whose bindings, and what is known before it, are borrowed.
+/// A group whose bindings, and what it is evaluated by, are borrowed.
 #[derive(Clone, Copy)]
-pub struct Group<'a, 'b, 'c> {
-    pub base: &'a Base,
-    pub known: &'b [Value],
-    pub bindings: &'c [Binding],
+pub struct Group<'a, 'b> {
+    pub setting: Setting<'a>,
+    pub bindings: &'b [Binding],
 }
 
 /// The equations of a borrowed group.
-impl<'a, 'b, 'c> Equations for Group<'a, 'b, 'c> {
-    ghost system = { λ g. record { base = g.base.now; known = g.known.now; bindings = map binding_of g.bindings.now } };
+impl<'a, 'b> Equations for Group<'a, 'b> {
+    ghost system = { λ g. record { base = g.setting.base.now; known = g.setting.known.now; bindings = map binding_of g.bindings.now } };
 
     fn count(&self) -> usize {
         self.bindings.len().min(64)
@@ -43,12 +41,12 @@ impl<'a, 'b, 'c> Equations for Group<'a, 'b, 'c> {
 
     fn value(&self, found: &[Relation; 64], slot: usize) -> Relation {
         match self.bindings.get(slot) {
-            Some(binding) => pairs_in(evaluate(
-                self.base,
-                self.known,
-                &found[..self.count()],
-                &binding.term,
-            )),
+            Some(binding) => {
+                // A copy: where the group's own is lent, each round copies the table once more, a fifth of the time.
+                let setting = self.setting;
+                let found = &found[..self.count()];
+                pairs_in(setting.evaluate(found, &binding.term))
+            }
             None => Relation::none(),
         }
     }

@@ -4,7 +4,11 @@
 pub mod bindings;
 pub mod check;
 pub mod equations;
-pub mod evaluate;
 pub mod operate;
 pub mod outcome;
+pub mod setting;
 pub mod solving;
+pub mod values;
+
+pub use setting::Setting;
+pub use values::Values;

@@ -6,9 +6,9 @@ ghost use Rattle.meaning.specs.Solvings.{SolvingBegins, SolvingSteps, SolvingBel
 ghost use Rattle.meaning.specs.Solved.{solving_start, solving_onward, solving_matched, solving_falls, solving_least, solving_within, solving_solved};
 
 use super::equations::{Equations, Group};
-use given::Base;
+use super::setting::Setting;
 use relation::climb::climb;
-use relation::{Ascent, Relation, Value};
+use relation::{Ascent, Relation};
 use term::statement::Binding;
 
 /// Equations, and what is found of the relations that solve them, name by name.
@@ -73,18 +73,14 @@ impl<E: Equations + Copy> Ascent for Solving<E> {
 }
 
 /// The least solution of a let rec group: what each of its first 64 names is bound to.
-pub fn solve(base: &Base, known: &[Value], bindings: &[Binding]) -> [Relation; 64]
-    ensures { Least (record { base = base.entry.now; known = known.now; bindings = map binding_of bindings.now }) result }
+pub fn solve(setting: &Setting<'_>, bindings: &[Binding]) -> [Relation; 64]
+    ensures { Least (record { base = setting.now.base.now; known = setting.now.known.now; bindings = map binding_of bindings.now }) result }
 {
     let none = Relation::none();
     let found = [none; 64];
-    let problem = Solving {
-        equations: Group {
-            base,
-            known,
-            bindings,
-        },
-        found,
+    let equations = Group {
+        setting: *setting,
+        bindings,
     };
-    climb(&problem).found
+    climb(&Solving { equations, found }).found
 }

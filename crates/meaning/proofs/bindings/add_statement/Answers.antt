@@ -6,12 +6,12 @@ use Rattle.meaning.proofs.Knowing.{added_check}
 use Rattle.meaning.proofs.bindings.add_statement.Goals as goal
 
 pub returns-in-Let : goal.returns-in-Let
-returns-in-Let c = subst⁻¹ (λ s. Added c.args.base.now (statement_of s) c.args.values.now c.args.many c.add_let.new.values c.add_let.result) c.in-Let.is c.add_let.ensures
+returns-in-Let c = subst⁻¹ (λ s. Added c.args.base.now (statement_of s) c.args.values.now c.add_let.new.values) c.in-Let.is c.add_let.ensures
 
 pub returns-in-Group : goal.returns-in-Group
 returns-in-Group c =
-    subst⁻¹ (λ s. Added c.args.base.now (statement_of s) c.args.values.now c.args.many c.add_group.new.values c.add_group.result) c.in-Group.is
-    (subst (λ items. Added c.args.base.now (groups (map binding_of items)) c.args.values.now c.args.many c.add_group.new.values c.add_group.result) c.as_slice.ensures.value c.add_group.ensures)
+    subst⁻¹ (λ s. Added c.args.base.now (statement_of s) c.args.values.now c.add_group.new.values) c.in-Group.is
+    (subst (λ items. Added c.args.base.now (groups (map binding_of items)) c.args.values.now c.add_group.new.values) c.as_slice.ensures.value c.add_group.ensures)
 
 pub returns-in-Check : goal.returns-in-Check
-returns-in-Check c = added_check c.args.base.now _ c.args.values.now c.args.many (ap statement_of c.in-Check.is) c.requires
+returns-in-Check c = added_check c.args.base.now _ c.args.values.now (ap statement_of c.in-Check.is)

@@ -1,15 +1,13 @@
-use Rattle.std.proofs.Common.{◌≡◌, refl, subst, arith}
-use Rattle.meaning.proofs.Knowing.{Putting, putting_none, putting_more}
+use Rattle.std.proofs.Common.{arith}
+use Rattle.meaning.proofs.Knowing.{putting_none, putting_more, putting_done}
 use Rattle.meaning.proofs.bindings.put.Goals as goal
 
-pub loop-slot-init : goal.loop-slot-init
-loop-slot-init c = putting_none c.args.many c.args.values.now c.args.found.now c.told-values
+pub loop-relation-init : goal.loop-relation-init
+loop-relation-init c = putting_none c.args.values.now
 
-pub loop-slot-preserved : goal.loop-slot-preserved
-loop-slot-preserved c =
-    putting_more c.args.many c.loop-slot.slot c.args.values.now c.loop-slot.values c.args.found.now c.pairs.result _ (omega arith) (omega arith) c.loop-slot.invariant c.pairs.ensures
+pub loop-relation-preserved : goal.loop-relation-preserved
+loop-relation-preserved c =
+    putting_more c.args.values.now c.loop-relation.values c.push.new.self c.args.found.now c.loop-relation.relation-index c.pairs.result _ (omega arith) c.loop-relation.invariant c.push.ensures.room c.pairs.ensures
 
 pub returns : goal.returns
-returns c =
-    let e : c.loop-slot.slot ≡ c.args.count = omega arith in
-    record { count = refl; known = (subst (λ n. Putting c.args.many n c.args.values.now c.loop-slot.values c.args.found.now) e c.loop-slot.invariant).1 }
+returns c = putting_done c.args.values.now c.loop-relation.values c.args.found.now c.loop-relation.relation-index (omega arith) c.loop-relation.invariant

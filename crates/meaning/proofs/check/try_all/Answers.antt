@@ -1,20 +1,48 @@
-use Rattle.std.proofs.Common.{arith}
-use lib.ListN.{length-map}
-use Rattle.term.specs.Statements.{statement_of, statements_of}
-use Rattle.meaning.proofs.Gone.{at_read}
-use Rattle.meaning.proofs.Tallying.{trying_none, trying_more, trying_done}
+use Rattle.std.proofs.Common.{length, map, refl, arith, rules, tests}
+use Rattle.std.proofs.lemmas.Iterator.{YieldsList-from_slice, YieldsList-from_range, YieldsList-from_zip}
+use Rattle.std.proofs.lemmas.Iterator.Consumers.{YieldsList-at, YieldsList-turn, YieldsList-end}
+use Rattle.term.specs.Statements.{claim_of}
+use Rattle.given.specs.Bases.{base_meaning}
+use Rattle.meaning.specs.Tables.{value_meaning}
+use Rattle.meaning.specs.Outcomes.{Good}
+use Rattle.meaning.proofs.Chains.{picked_road}
+use Rattle.meaning.proofs.Tallying.{claim_at, Turn, turn_at, tally_none, tried_more, tried_all}
 use Rattle.meaning.proofs.check.try_all.Goals as goal
+use Rattle.meaning.proofs.check.try_all.Goals.{In-Some}
 
-pub counted-number-requires : goal.counted-number-requires
-counted-number-requires c = c.loop-statement.invariant.few
+-- which check this turn has
+turned : (c : goal.In-Some) → Turn c.args.statements.now (length c.loop-number.yielded) c.in-Some.number (claim_of c.in-Some.check.now)
+turned c =
+    let ss = c.args.statements.now in
+    turn_at ss (length c.loop-number.yielded) c.in-Some.number (claim_of c.in-Some.check.now)
+    (YieldsList-turn
+    (YieldsList-at c.into_iter-number-iterator.ensures.into_iter_gives
+    (YieldsList-from_zip {s = c.zip-number-items.result} (YieldsList-from_range 0 16 16 c.zip-number-items.ensures.first refl)
+    (YieldsList-at c.zip-number-items.ensures.second
+    (picked_road _ (λ y. y.now) _ (λ r. claim_of r.now) claim_at _ (λ x r q k. search (rules, tests)) ss (YieldsList-at c.filter_map-checks.ensures.source (YieldsList-from_slice ss c.iter.ensures.rest))
+    c.filter_map-checks.ensures.closure))))
+    c.loop-number.yielded _ c.loop-number.yielded_by _ _ (c.in-Some.number, c.in-Some.check) c.in-Some.is c.next.ensures.steps)
 
-pub loop-statement-init : goal.loop-statement-init
-loop-statement-init c = trying_none _ _ (statements_of c.args.statements.now) c.none-outcome.result c.none-outcome.ensures.failure c.none-outcome.ensures.flags
+pub loop-number-init : goal.loop-number-init
+loop-number-init c = tally_none _ c.none-outcome.result c.none-outcome.ensures.failure c.none-outcome.ensures.flags
 
-pub loop-statement-preserved : goal.loop-statement-preserved
-loop-statement-preserved c =
-    trying_more _ _ (statements_of c.args.statements.now) c.loop-statement.statement-index c.loop-statement.number c.counted-number.result c.loop-statement.outcome c.tried-outcome.result (statement_of c.statement-item.result)
-    (at_read statement_of c.args.statements.now c.loop-statement.statement-index c.statement-item.result c.loop-statement-test.true c.statement-item.is) c.loop-statement.invariant c.tried-outcome.ensures c.counted-number.ensures.few c.counted-number.ensures.count
+pub loop-number-preserved : goal.loop-number-preserved
+loop-number-preserved c =
+    tried_more (Good (base_meaning c.args.setting.now.base.now) (map value_meaning c.args.setting.now.known.now)) c.args.statements.now c.loop-number.yielded (c.in-Some.number, c.in-Some.check) c.in-Some.number (claim_of c.in-Some.check.now) c.loop-number.outcome c.with-outcome.result c.is_flag.result c.holds.result
+    (turned (goal.at.loop-number-preserved c).In-Some) c.is_flag.ensures c.holds.ensures c.with-outcome.ensures.failure c.with-outcome.ensures.flags c.loop-number.invariant
+
+pub with-outcome-requires : goal.with-outcome-requires
+with-outcome-requires c = let t = turned (goal.at.with-outcome-requires c).In-Some in omega (arith, t.same, t.few)
 
 pub returns : goal.returns
-returns c = trying_done _ _ (statements_of c.args.statements.now) c.loop-statement.statement-index c.loop-statement.number c.loop-statement.outcome (omega (arith, c.loop-statement-test.false, length-map c.args.statements.now statement_of)) c.loop-statement.invariant
+returns c =
+    let ss = c.args.statements.now in
+    tried_all (Good (base_meaning c.args.setting.now.base.now) (map value_meaning c.args.setting.now.known.now)) ss c.loop-number.yielded c.loop-number.outcome
+    ((YieldsList-end
+    (YieldsList-at c.into_iter-number-iterator.ensures.into_iter_gives
+    (YieldsList-from_zip {s = c.zip-number-items.result} (YieldsList-from_range 0 16 16 c.zip-number-items.ensures.first refl)
+    (YieldsList-at c.zip-number-items.ensures.second
+    (picked_road _ (λ y. y.now) _ (λ r. claim_of r.now) claim_at _ (λ x r q k. search (rules, tests)) ss (YieldsList-at c.filter_map-checks.ensures.source (YieldsList-from_slice ss c.iter.ensures.rest))
+    c.filter_map-checks.ensures.closure))))
+    c.loop-number.yielded _ c.loop-number.yielded_by _ _ c.in-None.is c.next.ensures.steps).1)
+    c.loop-number.invariant

@@ -1,9 +1,9 @@
-use Rattle.std.proofs.Common.{map}
-use Rattle.term.specs.Statements.{statements_of}
+use Rattle.std.proofs.Common.{map, take, length}
+use Rattle.term.specs.Statements.{statements_of, claims}
 use Rattle.given.specs.Bases.{base_meaning}
 use Rattle.meaning.specs.Tables.{value_meaning}
-use Rattle.meaning.proofs.Tallying.{Trying}
+use Rattle.meaning.specs.Outcomes.{Good, Tally}
 use Rattle.meaning.proofs.check.try_all.Given as goal
 
-abbrev pub invariant-loop-statement : goal.invariant-loop-statement
-invariant-loop-statement l = Trying (base_meaning l.base) (map value_meaning l.known) (statements_of l.statements) l.statement-index l.number l.outcome
+abbrev pub invariant-loop-number : goal.invariant-loop-number
+invariant-loop-number l = Tally (Good (base_meaning l.setting.base.now) (map value_meaning l.setting.known.now)) (take (length l.yielded) (claims (statements_of l.statements))) l.outcome

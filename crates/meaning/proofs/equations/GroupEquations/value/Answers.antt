@@ -10,7 +10,7 @@ pub returns-in-Some : goal.returns-in-Some
 returns-in-Some c =
     let bindings = c.args.self.now.bindings.now in
     let h = c.in-Some.ensures.lookup in
-    let s : System = record { base = c.args.self.now.base.now; known = c.args.self.now.known.now; bindings = map binding_of bindings } in
+    let s : System = record { base = c.args.self.now.setting.base.now; known = c.args.self.now.setting.known.now; bindings = map binding_of bindings } in
     value_body s c.args.found.now c.count.result c.args.slot (binding_of c.in-Some.binding.now) c.evaluate.result (omega arith) c.count.ensures
     (at_read binding_of bindings c.args.slot c.in-Some.binding.now h.3.0 h.1) c.evaluate.ensures c.pairs_in.ensures
 

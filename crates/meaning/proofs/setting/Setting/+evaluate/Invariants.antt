@@ -1,5 +1,5 @@
 use Rattle.term.proofs.term.Term.TheLaws.{the_size}
-use Rattle.meaning.proofs.evaluate.+evaluate.Given as goal
+use Rattle.meaning.proofs.setting.Setting.+evaluate.Given as goal
 
 abbrev pub decreases-evaluate : goal.decreases-evaluate
 decreases-evaluate l = the_size l.term.now

@@ -1,0 +1,62 @@
+//! Values by their numbers, in a place that the caller lends.
+ghost use Rattle.std.specs.Prelude.{◌≡◌, ◌<◌, ◌≤◌, [], ◌∷◌, ◌++◌, length};
+
+use relation::Value;
+use std::marker::Model;
+
+/// So many values, at most 64.
+#[derive(Drop)]
+pub struct Values {
+    slots: [Value; 64],
+    many: usize,
+}
+
+impl Model for Values {
+    ghost use Rattle.std.specs.Prelude.{◌≤◌, List, take};
+    ghost use Rattle.relation.specs.declared.value.Value.{Value as Item};
+
+    ghost Value = { List Item };
+
+    ghost view = { λ values. take values.many values.slots };
+
+    ghost invariant = { λ values. values.many ≤ 64 };
+}
+
+impl Values {
+    /// No value.
+    pub fn none() -> Values
+        ensures { result ≡ [] }
+    {
+        let blank = Value::events(0);
+        Values {
+            slots: [blank; 64],
+            many: 0,
+        }
+    }
+
+    /// The values, by their numbers.
+    pub fn as_slice(&self) -> &[Value]
+        ensures value { result.now ≡ self.now }
+        ensures fits { length result.now ≤ 64 }
+    {
+        &self.slots[..self.many]
+    }
+
+    /// Takes all values out.
+    pub fn clear(&mut self)
+        ensures { self.new ≡ [] }
+    {
+        self.many = 0;
+    }
+
+    /// Puts a value behind the others. A 65th is left out.
+    pub fn push(&mut self, value: Value)
+        ensures room { length self.old < 64 → self.new ≡ self.old ++ value ∷ [] }
+        ensures full { 64 ≤ length self.old → self.new ≡ self.old }
+    {
+        if self.many < 64 {
+            self.slots[self.many] = value;
+            self.many += 1;
+        }
+    }
+}
