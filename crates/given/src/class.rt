@@ -6,8 +6,7 @@ ghost use Rattle.given.specs.Givens.{those};
 ghost use Rattle.given.specs.Classes.{Is, is_of};
 
 use super::mask;
-use run::event::{BRANCH, FENCE};
-use run::{Event, Snapshot};
+use run::{Event, Kind, Snapshot};
 
 /// What an event can be by itself.
 #[derive(Clone, Copy)]
@@ -38,8 +37,8 @@ fn is_of(class: Class, event: &Event) -> bool
         Class::Standing => true,
         Class::Read => event.is_read(),
         Class::Write => event.is_write(),
-        Class::Fence => event.kind == FENCE,
-        Class::Branch => event.kind == BRANCH,
+        Class::Fence => event.is(Kind::Fence),
+        Class::Branch => event.is(Kind::Branch),
         Class::Memory => event.is_memory(),
         Class::Initial => event.is_initial(),
         Class::Settled => event.is_write() & event.settled,

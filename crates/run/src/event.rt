@@ -1,15 +1,18 @@
 //! Events: what the cores of a board did, one record each.
 
-/// The kind of a read.
-pub const READ: u8 = 0;
-/// The kind of a write.
-pub const WRITE: u8 = 1;
-/// The kind of a fence.
-pub const FENCE: u8 = 2;
-/// The kind of a branch.
-pub const BRANCH: u8 = 3;
-/// The kind of an initial write.
-pub const INITIAL: u8 = 4;
+ghost use Rattle.std.specs.Prelude.{◌≡◌};
+ghost use Rattle.run.specs.Kinds.{is};
+ghost use Rattle.run.specs.Tests.{is_read, is_initial, is_write, is_memory, is_threaded, same_place, well_threaded, well_placed, in_range};
+
+/// What an event can be, each kind with its number.
+#[derive(Clone, Copy, PartialEq, Eq, Debug)]
+pub enum Kind {
+    Read = 0,
+    Write = 1,
+    Fence = 2,
+    Branch = 3,
+    Initial = 4,
+}
 
 /// What a run source answers: an event with its source, if it is a tied read, and whether it is settled.
 /// Its fields may hold any byte; the rules of a sound run say which of them stand.
@@ -22,4 +25,84 @@ pub struct Event {
     pub value: u32,
     pub source: Option<u8>,
     pub settled: bool,
+}
+
+impl Event {
+    /// Whether it is of a kind.
+    pub fn is(&self, kind: Kind) -> bool
+        ensures { result ≡ is kind self.now }
+    {
+        self.kind == kind as u8
+    }
+
+    /// Whether it is a read.
+    pub fn is_read(&self) -> bool
+        ensures { result ≡ is_read self.now }
+    {
+        self.is(Kind::Read)
+    }
+
+    /// Whether it is an initial write.
+    pub fn is_initial(&self) -> bool
+        ensures { result ≡ is_initial self.now }
+    {
+        self.is(Kind::Initial)
+    }
+
+    /// Whether it is a write, initial or not.
+    pub fn is_write(&self) -> bool
+        ensures { result ≡ is_write self.now }
+    {
+        self.is(Kind::Write) || self.is_initial()
+    }
+
+    /// Whether it is a read or a write.
+    pub fn is_memory(&self) -> bool
+        ensures { result ≡ is_memory self.now }
+    {
+        self.is_read() || self.is_write()
+    }
+
+    /// Whether its thread is that of a core, 1 to 8.
+    pub(crate) fn is_threaded(&self) -> bool
+        ensures { result ≡ is_threaded self.now }
+    {
+        (1..=8).contains(&self.thread)
+    }
+
+    /// Whether it has the location of another.
+    pub fn same_place(&self, other: &Event) -> bool
+        ensures { result ≡ same_place self.now other.now }
+    {
+        self.location == other.location
+    }
+
+    /// Whether its thread and step are those that its kind asks for.
+    fn well_threaded(&self) -> bool
+        ensures { result ≡ well_threaded self.now }
+    {
+        if self.is_initial() {
+            self.thread == 0 && self.step == 0
+        } else {
+            self.is_threaded()
+        }
+    }
+
+    /// Whether its location and value are those that its kind asks for.
+    fn well_placed(&self) -> bool
+        ensures { result ≡ well_placed self.now }
+    {
+        if self.is_memory() {
+            self.location <= 15
+        } else {
+            self.location == 0 && self.value == 0
+        }
+    }
+
+    /// Whether each field is in its range.
+    pub fn in_range(&self) -> bool
+        ensures { result ≡ in_range self.now }
+    {
+        self.kind <= Kind::Initial as u8 && self.well_threaded() && self.well_placed()
+    }
 }

@@ -9,7 +9,7 @@ pub mod sound;
 pub mod source;
 pub mod window;
 
-pub use event::Event;
+pub use event::{Event, Kind};
 pub use link::Link;
 pub use rule::{Breach, Rule};
 pub use snapshot::Snapshot;

@@ -6,19 +6,19 @@ ghost use Rattle.run.specs.Numbers.{rule_number};
 #[derive(Clone, Copy, PartialEq, Eq, Debug)]
 pub enum Rule {
     /// Each field is in its range.
-    Ranges,
+    Ranges = 1,
     /// No two events of a thread have the same step.
-    Steps,
+    Steps = 2,
     /// No location has two initial writes.
-    Initials,
+    Initials = 3,
     /// Only reads have a source, a standing write of the same location and value.
-    Sources,
+    Sources = 4,
     /// Only writes are settled, one in a location, an initial one only if it is alone.
-    Settlings,
+    Settlings = 5,
     /// Each location of a read or write has an initial write.
-    Initialised,
+    Initialised = 6,
     /// Each read has a source.
-    Tied,
+    Tied = 7,
 }
 
 impl Rule {
@@ -26,15 +26,7 @@ impl Rule {
     pub fn number(self) -> u8
         ensures { result ≡ rule_number self }
     {
-        match self {
-            Rule::Ranges => 1,
-            Rule::Steps => 2,
-            Rule::Initials => 3,
-            Rule::Sources => 4,
-            Rule::Settlings => 5,
-            Rule::Initialised => 6,
-            Rule::Tied => 7,
-        }
+        self as u8
     }
 }
 

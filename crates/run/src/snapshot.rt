@@ -22,21 +22,14 @@ impl RunSource for Snapshot {
     ghost standing = { λ s. table_run s.events };
 
     fn event(&self, number: u8) -> Option<Event> {
-        if number < 32 {
-            self.events[number as usize]
-        } else {
-            None
-        }
+        self.events.get(number as usize).copied().flatten()
     }
 }
 
 fn linked_at(link: Link, n: u8, event: &Event, m: u8, other: Option<Event>) -> bool
     ensures { result ≡ holds other (linked link n event.now m) }
 {
-    match other {
-        None => false,
-        Some(found) => link::linked(link, n, event, m, &found),
-    }
+    other.is_some_and(|found| link::linked(link, n, event, m, &found))
 }
 
 impl Snapshot {
@@ -62,7 +55,7 @@ impl Snapshot {
     pub(crate) fn misplaced(&self, n: u8, event: &Event) -> bool
         ensures { result ≡ misplaced (table_run self.now.events) n event.now }
     {
-        event.settled & (!event.is_write() | self.some_linked(Link::OtherSettled, n, event))
+        event.settled && (!event.is_write() || self.some_linked(Link::OtherSettled, n, event))
     }
 
     /// Whether the event at `n` breaks a rule.
@@ -71,16 +64,16 @@ impl Snapshot {
     {
         match rule {
             Rule::Ranges => !event.in_range(),
-            Rule::Steps => event.is_threaded() & self.some_linked(Link::SameStep, n, event),
-            Rule::Initials => event.is_initial() & self.some_linked(Link::Twin, n, event),
+            Rule::Steps => event.is_threaded() && self.some_linked(Link::SameStep, n, event),
+            Rule::Initials => event.is_initial() && self.some_linked(Link::Twin, n, event),
             Rule::Sources => event.source.is_some()
-                & !(event.is_read() & self.some_linked(Link::Source, n, event)),
+                && !(event.is_read() && self.some_linked(Link::Source, n, event)),
             Rule::Settlings => {
-                let alone = event.is_initial() & self.some_linked(Link::OtherWrite, n, event);
-                self.misplaced(n, event) | (event.settled & alone)
+                let alone = event.is_initial() && self.some_linked(Link::OtherWrite, n, event);
+                self.misplaced(n, event) || (event.settled && alone)
             }
-            Rule::Initialised => event.is_memory() & !self.some_linked(Link::Origin, n, event),
-            Rule::Tied => event.is_read() & !event.source.is_some(),
+            Rule::Initialised => event.is_memory() && !self.some_linked(Link::Origin, n, event),
+            Rule::Tied => event.is_read() && event.source.is_none(),
         }
     }
 
@@ -88,10 +81,7 @@ impl Snapshot {
         requires { n < 32 }
         ensures { result ≡ faulty rule (table_run self.now.events) n }
     {
-        match self.events[n as usize] {
-            None => false,
-            Some(event) => self.broken(rule, n, &event),
-        }
+        self.events[n as usize].is_some_and(|event| self.broken(rule, n, &event))
     }
 
     /// The lowest event that breaks a rule.

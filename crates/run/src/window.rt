@@ -36,16 +36,7 @@ impl<S> WindowFault<S> {
 fn within(location: u8, event: Option<Event>) -> Option<Event>
     ensures { result ≡ within location event }
 {
-    match event {
-        None => None,
-        Some(found) => {
-            if found.is_memory() & (found.location == location) {
-                Some(found)
-            } else {
-                None
-            }
-        }
-    }
+    event.filter(|found| found.is_memory() && found.location == location)
 }
 
 /// A window shows the reads and writes of its location.
