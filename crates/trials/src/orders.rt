@@ -1,24 +1,23 @@
 //! Coherence orders of small runs, each listed; and the most free writes that are counted.
 use coherence::{count_orders, nth_order};
 use relation::Relation;
-use run::event::{INITIAL, WRITE};
-use run::{Event, Snapshot};
+use run::{Event, Kind, Snapshot};
 
 /// A write: its kind, its location, and whether it is settled.
-type Write = (u8, u8, bool);
+type Write = (Kind, u8, bool);
 
 /// An initial write of location 0.
-const FIRST: Write = (INITIAL, 0, false);
+const FIRST: Write = (Kind::Initial, 0, false);
 
 /// A write of location 0 that is neither initial nor settled.
-const FREE: Write = (WRITE, 0, false);
+const FREE: Write = (Kind::Write, 0, false);
 
 /// The run of these writes, numbered as they stand.
 fn run_of(writes: &[Write]) -> Snapshot {
     let mut events = [None; 32];
     for (event, (kind, location, settled)) in events.iter_mut().zip(writes) {
         *event = Some(Event {
-            kind: *kind,
+            kind: *kind as u8,
             thread: 1,
             step: 0,
             location: *location,
@@ -34,10 +33,10 @@ fn run_of(writes: &[Write]) -> Snapshot {
 fn two_plus_two(settled: bool) -> Snapshot {
     run_of(&[
         FIRST,
-        (INITIAL, 1, false),
-        (WRITE, 0, settled),
-        (WRITE, 1, false),
-        (WRITE, 1, settled),
+        (Kind::Initial, 1, false),
+        (Kind::Write, 0, settled),
+        (Kind::Write, 1, false),
+        (Kind::Write, 1, settled),
         FREE,
     ])
 }
@@ -81,13 +80,13 @@ fn a_number_past_the_orders_changes_nothing(rt: HostRuntime) {
 #[test]
 fn three_locations_mixed(rt: HostRuntime) {
     let events = run_of(&[
-        (INITIAL, 3, false),
-        (INITIAL, 9, false),
-        (INITIAL, 15, true),
-        (WRITE, 9, false),
-        (WRITE, 3, true),
-        (WRITE, 9, false),
-        (WRITE, 9, false),
+        (Kind::Initial, 3, false),
+        (Kind::Initial, 9, false),
+        (Kind::Initial, 15, true),
+        (Kind::Write, 9, false),
+        (Kind::Write, 3, true),
+        (Kind::Write, 9, false),
+        (Kind::Write, 9, false),
     ]);
     assert_eq!(rt; count_orders(&events), Some(6));
     assert!(rt; lines_up(&events, 0, &[0, 4]) && lines_up(&events, 0, &[1, 3, 5, 6]));
