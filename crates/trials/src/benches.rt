@@ -3,7 +3,7 @@ use bench::{Bench, BenchFault, Entry};
 use run::{RunSource, Window};
 use std::test::Fail;
 
-/// An entry at location 0 with step 0.
+/// An entry at location 0 with step 0; its kind is any byte, as in a record.
 pub(super) fn entry(number: u8, kind: u8, thread: u8, value: u32) -> Entry {
     Entry {
         number,

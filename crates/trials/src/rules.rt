@@ -2,6 +2,7 @@
 use run::source::RunSource;
 use run::{Breach, Event, Rule, Snapshot, soundness};
 
+/// An event at location 0 with value 0; its kind is any byte, as of a source.
 fn event(kind: u8, thread: u8, step: u8) -> Event {
     Event {
         kind,
@@ -26,6 +27,7 @@ fn sound() -> Snapshot {
     run
 }
 
+/// What a run breaks first.
 fn breach(rule: Rule, event: u8) -> Option<Breach> {
     Some(Breach { rule, event })
 }

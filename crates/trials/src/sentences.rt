@@ -2,21 +2,20 @@
 use sentence::{SentenceFault, Sort, read};
 use std::alloc::Global;
 
-// How many statements are read, and the place of a refusal; 9999 stands for none.
-fn outcome(heap: Global, sorts: &[Sort]) -> (usize, usize) {
-    match read(heap, sorts) {
-        Ok(sentence) => (sentence.statements.len(), 9999),
-        Err(fault) => match fault {
-            SentenceFault::Memory => (9999, 9999),
-            SentenceFault::Place(place) => (9999, place),
-        },
-    }
+/// How many statements are read, or the refusal.
+fn outcome(heap: Global, sorts: &[Sort]) -> Result<usize, SentenceFault> {
+    Ok(read(heap, sorts)?.statements.len())
+}
+
+/// A refusal at a place.
+fn refused(place: usize) -> Result<usize, SentenceFault> {
+    Err(SentenceFault::Place(place))
 }
 
 #[test]
 fn reads_texts(rt: HostRuntime) {
     let heap = rt.alloc();
-    assert_eq!(rt; outcome(heap, &[]), (0, 9999));
+    assert_eq!(rt; outcome(heap, &[]), Ok(0));
     assert_eq!(rt;
         outcome(
             heap,
@@ -32,7 +31,7 @@ fn reads_texts(rt: HostRuntime) {
                 Sort::Name,
             ],
         ),
-        (2, 9999)
+        Ok(2)
     );
     assert_eq!(rt;
         outcome(
@@ -50,32 +49,32 @@ fn reads_texts(rt: HostRuntime) {
                 Sort::Name,
             ],
         ),
-        (1, 9999)
+        Ok(1)
     );
 }
 
 #[test]
 fn refuses_at_the_place(rt: HostRuntime) {
     let heap = rt.alloc();
-    assert_eq!(rt; outcome(heap, &[Sort::Title, Sort::Title]), (9999, 1));
-    assert_eq!(rt; outcome(heap, &[Sort::Let, Sort::Equals]), (9999, 1));
+    assert_eq!(rt; outcome(heap, &[Sort::Title, Sort::Title]), refused(1));
+    assert_eq!(rt; outcome(heap, &[Sort::Let, Sort::Equals]), refused(1));
     assert_eq!(rt;
         outcome(
             heap,
             &[Sort::Empty, Sort::Name, Sort::Star, Sort::Tilde, Sort::Name],
         ),
-        (9999, 4)
+        refused(4)
     );
     assert_eq!(rt;
         outcome(
             heap,
             &[Sort::Empty, Sort::Open, Sort::Name, Sort::CloseSquare],
         ),
-        (9999, 3)
+        refused(3)
     );
     assert_eq!(rt;
         outcome(heap, &[Sort::Flag, Sort::Empty, Sort::Name]),
-        (9999, 3)
+        refused(3)
     );
 }
 
@@ -83,5 +82,5 @@ fn refuses_at_the_place(rt: HostRuntime) {
 fn nests_deep(rt: HostRuntime) {
     let mut deep = [Sort::Open; 1024];
     deep[0] = Sort::Empty;
-    assert_eq!(rt; outcome(rt.alloc(), &deep), (9999, 1024));
+    assert_eq!(rt; outcome(rt.alloc(), &deep), refused(1024));
 }
