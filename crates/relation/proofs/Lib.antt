@@ -2,3 +2,4 @@ pub mod Rows
 pub mod Gathered
 pub mod Climbing
 pub mod Carried
+pub mod Folds

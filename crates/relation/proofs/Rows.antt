@@ -1,19 +1,18 @@
 -- Relations made row by row. Assumes nothing.
-use Rattle.std.proofs.Common.{◌≡◌, ℕ, ◌+◌, ◌^◌, ◌<◌, ◌≤◌, ◌↔◌, List, length, get_or, set, replicate, sym, refl, ◌∙◌, subst, inl, inr, ⊎_elim, arith}
+use Rattle.std.proofs.Common.{◌≡◌, ℕ, zero, suc, ◌+◌, ◌^◌, ◌<◌, ◌≤◌, ◌↔◌, List, [], ◌∷◌, length, get_or, set, replicate, sym, refl, ◌∙◌, subst, inl, inr, ⊎_elim, arith}
 use mathlib.Core.Path.{subst⁻¹}
 use Rattle.std.proofs.lemmas.List.{length-set, get_or-set_same, get_or-set_other, get_or-replicate, get_or_past}
 use Rattle.std.proofs.lemmas.Bool.{cases_eq, cases_lt}
+use Rattle.std.specs.Fn.{Mut, Called}
+use Rattle.std.specs.List.{FoldsTo}
+use Rattle.std.specs.Iterator.{CallableAtEachTurn}
+use Rattle.std.specs.Array.{index_steps, IsFromFnResultFrom}
 use Rattle.relation.specs.Sets.{Either, Both, Without, Outside, Single, Gated}
 use Rattle.relation.specs.Relations.{Pairs, Never, Union, Intersection, Difference, Complement, Identity}
 use Rattle.relation.specs.Masks.{Member, Related, Marks, Shows}
 use Rattle.relation.specs.Rows.{TakesEvents, RowsBy}
 use Rattle.relation.specs.Bits.{in_nothing}
 use Rattle.relation.specs.Marked.{marks_as}
-use Rattle.std.specs.Fn.{Mut, Called}
-use Rattle.std.specs.List.{FoldsTo}
-use Rattle.std.specs.Iterator.{CallableAtEachTurn}
-use Rattle.std.specs.Array.{index_steps, IsFromFnResultFrom}
-use Rattle.std.proofs.Common.{zero, suc, [], ◌∷◌}
 
 -- the rows below n show the relation
 pub record Filled (n : ℕ) (rows : List ℕ) (R : Pairs) : Type 0 where

@@ -19,9 +19,8 @@ impl Relation {
         requires { TakesEvents (F.pre row) }
         ensures { RowsBy (F.post row) result.rows }
     {
-        Relation {
-            rows: array::from_fn(row),
-        }
+        let rows = array::from_fn(row);
+        Relation { rows }
     }
 
     /// The relation with no pair.
@@ -128,22 +127,18 @@ impl Relation {
     pub fn sequence(self, other: Relation) -> Relation
         ensures { Shows result.rows (Sequence (Related self.rows) (Related other.rows)) }
     {
-        let mut whole = Relation::none();
-        for middle in 0..32 {
-            whole = self.through(whole, middle, other.rows[middle]);
-        }
-        whole
+        (0..32).fold(Relation::none(), |whole, middle| {
+            self.through(whole, middle, other.rows[middle])
+        })
     }
 
     /// The relation joined with itself in place, each middle event in turn.
     pub(crate) fn joined(self) -> Relation
         ensures { Joined (Related self.rows) result.rows }
     {
-        let mut whole = self;
-        for via in 0..32 {
-            whole = whole.through(whole, via, whole.rows[via]);
-        }
-        whole
+        (0..32).fold(self, |whole: Relation, via| {
+            whole.through(whole, via, whole.rows[via])
+        })
     }
 
     /// Whether the relations have the same pairs.

@@ -1,11 +1,12 @@
-use Rattle.relation.specs.Steps.{joining_none, joining_more, joining_done}
+use Rattle.std.proofs.Common.{rules, refl, arith}
+use Rattle.relation.specs.Masks.{Related}
+use Rattle.relation.specs.Steps.{Joining, joining_none, joining_more, joining_done}
+use Rattle.relation.proofs.Folds.{fold_events}
 use Rattle.relation.proofs.relation.Relation.joined.Goals as goal
 
-pub loop-via-init : goal.loop-via-init
-loop-via-init c = joining_none _
-
-pub loop-via-preserved : goal.loop-via-preserved
-loop-via-preserved c = joining_more _ _ c.loop-via-test.true c.loop-via.invariant c.through-whole.ensures
-
 pub returns : goal.returns
-returns c = joining_done _ c.loop-via-test.false c.loop-via.invariant
+returns c =
+    joining_done 32 (omega arith)
+    (fold_events _ (λ n whole. Joining n (Related c.args.self.rows) whole.rows) _ (λ n a b f k. search rules)
+    (λ n a b f l i k. joining_more n (Related c.args.self.rows) l i (search rules))
+    _ _ _ refl (joining_none _) c.fold.ensures.ran)

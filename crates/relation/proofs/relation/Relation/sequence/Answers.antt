@@ -1,11 +1,12 @@
-use Rattle.relation.specs.Steps.{through_none, through_more, through_done}
+use Rattle.std.proofs.Common.{rules, refl, arith}
+use Rattle.relation.specs.Masks.{Related, Shows}
+use Rattle.relation.specs.Steps.{Through, through_none, through_more, through_done}
+use Rattle.relation.proofs.Folds.{fold_events}
 use Rattle.relation.proofs.relation.Relation.sequence.Goals as goal
 
-pub loop-middle-init : goal.loop-middle-init
-loop-middle-init c = through_none _ _ c.none-whole.ensures
-
-pub loop-middle-preserved : goal.loop-middle-preserved
-loop-middle-preserved c = through_more _ _ _ c.loop-middle-test.true c.loop-middle.invariant c.through-whole.ensures
-
 pub returns : goal.returns
-returns c = through_done _ _ _ c.loop-middle-test.false c.loop-middle.invariant
+returns c =
+    through_done 32 c.args.self.rows c.args.other.rows (omega arith)
+    (fold_events _ (λ n whole. Shows whole.rows (Through n (Related c.args.self.rows) (Related c.args.other.rows))) _ (λ n a b f k. search rules)
+    (λ n a b f l i k. through_more n c.args.self.rows c.args.other.rows l i (search rules))
+    _ _ _ refl (through_none _ _ c.none.ensures) c.fold.ensures.ran)
