@@ -1,13 +1,13 @@
 -- Kinds and their faults: of a term by its shape, and as a loop goes through bindings and statements. Assumes nothing.
-use Rattle.std.proofs.Common.{◌≡◌, ℕ, ◌+◌, ◌<◌, ◌≤◌, Bool, cond, not, List, [], ◌∷◌, ◌++◌, map, length, get_or, drop, replicate, None, Option, sym, refl, ap, ◌∙◌, append_assoc}
-use Rattle.std.proofs.lemmas.List.{replicate_more}
+use Rattle.std.proofs.Common.{◌≡◌, ℕ, ◌+◌, ◌<◌, ◌≤◌, Bool, cond, not, List, [], ◌∷◌, ◌++◌, map, length, get_or, drop, min, None, Option, sym, refl, ap, ◌∙◌}
+use Rattle.std.specs.List.{filter_map, reduce}
 use Rattle.term.specs.declared.statement.Binding as program_binding
 use Rattle.term.specs.declared.statement.Statement as program
 use Rattle.term.specs.Least.{least, lower, fault_if}
 use Rattle.term.specs.Terms.{Term, Given, Post, Infix, given, bound, unbound, test, complement, ended, joined}
 use Rattle.term.specs.Statements.{Statement, groups, binding_of, statement_of, statements_of}
 use Rattle.term.specs.Kinds.{Kind, relation, torn, given_kind, as_set, as_relation, fits, made, behind, kind, kind_faults, relations, binding_kinds, group_kinds, known_after, statement_kinds, all_kinds}
-use Rattle.term.proofs.Lowering.{least_none, least_both, Rest, rest_turn, rest_end}
+use Rattle.term.proofs.Lowering.{least_none, least_both, lowest_items, Rest, rest_turn, rest_end}
 
 -- a place that is at fault unless a test holds, and other faults
 pub unless_least : {r a : Option ℕ} (holds really : Bool) (p : ℕ) (ys : List ℕ) → r ≡ lower (least (fault_if (not holds) p)) a → holds ≡ really → a ≡ least ys → r ≡ least (fault_if (not really) p ++ ys)
@@ -62,23 +62,13 @@ examined_joined {known} {v = v} {w} {a = a} {b} {p = p} i e h j q m s l =
     (unless_least (fits i a b) (fits i (kind known v) (kind known w)) p (kind_faults known v ++ kind_faults known w) l (ap (λ x. fits i x b) h ∙ ap (fits i (kind known v)) q)
     (least_both (kind_faults known v) (kind_faults known w) refl j m))
 
--- what is left of a group
-abbrev pub GroupLeft : List Kind → Option ℕ → ℕ → List program_binding.Binding → Type 0
-GroupLeft known fault i bs = Rest fault (group_kinds known (map binding_of (drop i bs))) (group_kinds known (map binding_of bs))
-
-pub group_more : {fault here new : Option ℕ} (known : List Kind) (bs : List program_binding.Binding) (i : ℕ) (b : program_binding.Binding) → i < length bs → b ≡ get_or bs i b → GroupLeft known fault i bs →
-    here ≡ least (binding_kinds known (binding_of b)) → new ≡ lower fault here → GroupLeft known new (i + 1) bs
+-- the first fault of a group
+pub group_least : {r : Option ℕ} (known : List Kind) (bs : List program_binding.Binding) → r ≡ reduce min (filter_map (λ b. least (binding_kinds known (binding_of b))) bs) → r ≡ least (group_kinds known (map binding_of bs))
 unfolding group_kinds
-group_more known bs i b lt is inv h n =
-    let F = λ (l : List program_binding.Binding). group_kinds known (map binding_of l) in
-    rest_turn F F bs i b (binding_kinds known (binding_of b)) (F bs) lt is refl inv h n
+group_least known bs h = lowest_items (λ b. binding_kinds known (binding_of b)) (λ l. group_kinds known (map binding_of l)) refl (λ b l. refl) bs h
 
-pub group_done : {fault : Option ℕ} (known : List Kind) (bs : List program_binding.Binding) (i : ℕ) → length bs ≤ i → GroupLeft known fault i bs → fault ≡ least (group_kinds known (map binding_of bs))
-unfolding group_kinds
-group_done known bs i le inv = rest_end (λ l. group_kinds known (map binding_of l)) bs i (group_kinds known (map binding_of bs)) le refl inv
-
--- the names of a group are relations, as many as there are
-pub relations_are : (bs : List program_binding.Binding) → relations (map binding_of bs) ≡ replicate (length bs) relation
+-- the names of a group are relations
+pub relations_are : (bs : List program_binding.Binding) → relations (map binding_of bs) ≡ map (λ _. relation) bs
 unfolding relations
 relations_are [] = refl
 relations_are (b ∷ bs) = ap (λ l. relation ∷ l) (relations_are bs)
@@ -98,14 +88,10 @@ pub kinds_done : {fault : Option ℕ} (known : List Kind) (ss : List program.Sta
 unfolding all_kinds
 kinds_done known ss i le inv = rest_end (λ l. all_kinds known (statements_of l)) ss i (all_kinds [] (statements_of ss)) le refl inv
 
--- one name more of a group
-pub relations_more : (known after : List Kind) (i : ℕ) → after ≡ (known ++ replicate i relation) ++ (relation ∷ []) → after ≡ known ++ replicate (i + 1) relation
-relations_more known after i h = h ∙ append_assoc known (replicate i relation) (relation ∷ []) ∙ ap (λ l. known ++ l) (replicate_more i relation)
-
 -- a group: its names are known, and then its terms are looked at
-pub grouped : {fault : Option ℕ} (known after : List Kind) {shown : List Kind} {items : List program_binding.Binding} {u : Statement} (bs : List program_binding.Binding) {many n : ℕ} → u ≡ groups (map binding_of bs) → items ≡ bs → length items ≡ n →
-    many ≡ n → after ≡ known ++ replicate many relation → shown ≡ after → fault ≡ least (group_kinds shown (map binding_of items)) → (fault ≡ least (statement_kinds known u)) × (after ≡ known_after known u)
-grouped known after {items = items} bs is e long m h sl f =
+pub grouped : {fault : Option ℕ} (known after : List Kind) {shown : List Kind} {items : List program_binding.Binding} {u : Statement} (bs : List program_binding.Binding) → u ≡ groups (map binding_of bs) → items ≡ bs →
+    after ≡ known ++ map (λ _. relation) items → shown ≡ after → fault ≡ least (group_kinds shown (map binding_of items)) → (fault ≡ least (statement_kinds known u)) × (after ≡ known_after known u)
+grouped known after {items = items} bs is e h sl f =
     let of = is ∙ ap (λ l. groups (map binding_of l)) (sym e) in
-    let behind = h ∙ ap (λ l. known ++ l) (ap (λ k. replicate k relation) (m ∙ sym long) ∙ sym (relations_are items)) in
+    let behind = h ∙ ap (λ l. known ++ l) (sym (relations_are items)) in
     (f ∙ ap (λ l. least (group_kinds l (map binding_of items))) (sl ∙ behind) ∙ ap (λ w. least (statement_kinds known w)) (sym of), behind ∙ ap (known_after known) (sym of))

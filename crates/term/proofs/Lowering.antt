@@ -1,6 +1,7 @@
 -- The lowest of some places: of two lists, and as a loop goes through a list. Assumes nothing.
-use Rattle.std.proofs.Common.{◌≡◌, ℕ, ◌+◌, ◌<◌, ◌≤◌, min, Bool, true, false, ◌⊎◌, List, [], ◌∷◌, ◌++◌, length, get_or, drop, Some, None, Option, sym, refl, ap, ◌∙◌, subst, inl, inr, ⊎_elim, arith}
-use borrow.Author.Tests.{clash}
+use Rattle.std.proofs.Common.{◌≡◌, ℕ, ◌+◌, ◌<◌, ◌≤◌, min, fold, Bool, true, false, ◌⊎◌, List, [], ◌∷◌, ◌++◌, length, get_or, drop, Some, None, Option, sym, refl, ap, ◌∙◌, subst, inl, inr, ⊎_elim, arith}
+use Rattle.std.specs.Bool.{then_some}
+use Rattle.std.specs.List.{cons_option, filter_map, reduce}
 use Rattle.std.proofs.lemmas.List.{drop_more, drop_all}
 use Rattle.finite.specs.Lists.{In}
 use Rattle.term.specs.Least.{fault_if, lower, least, Lowest}
@@ -57,6 +58,32 @@ lowest (k ∷ ks) = lowest_more k ks (least ks) (lowest ks)
 pub lowest_is : (ks : List ℕ) {r : Option ℕ} → r ≡ least ks → Lowest ks r
 lowest_is ks e = subst (Lowest ks) (sym e) (lowest ks)
 
+-- the library's lowest of some places
+fold_lower : (k : ℕ) (ks : List ℕ) → Some (fold min k ks) ≡ lower (Some k) (least ks)
+unfolding least
+fold_lower k [] = refl
+fold_lower k (j ∷ ks) = fold_lower (min k j) ks ∙ lower_assoc (Some k) (Some j) (least ks)
+
+reduce_least : (ks : List ℕ) → reduce min ks ≡ least ks
+unfolding least
+reduce_least [] = refl
+reduce_least (k ∷ ks) = fold_lower k ks
+
+least_cons : (o : Option ℕ) (ks : List ℕ) → least (cons_option o ks) ≡ lower o (least ks)
+unfolding least
+least_cons None ks = refl
+least_cons (Some k) ks = refl
+
+least_items : {X : Type 0} (faults : X → List ℕ) (F : List X → List ℕ) → F [] ≡ [] → ((x : X) (xs : List X) → F (x ∷ xs) ≡ faults x ++ F xs) → (xs : List X) → least (filter_map (λ x. least (faults x)) xs) ≡ least (F xs)
+least_items faults F none step [] = ap least (sym none)
+least_items faults F none step (x ∷ xs) =
+    least_cons (least (faults x)) (filter_map (λ y. least (faults y)) xs) ∙ ap (lower (least (faults x))) (least_items faults F none step xs) ∙ sym (least_append (faults x) (F xs)) ∙ ap least (sym (step x xs))
+
+-- the lowest fault of some items is that of all their faults, one after another
+pub lowest_items : {X : Type 0} {r : Option ℕ} (faults : X → List ℕ) (F : List X → List ℕ) → F [] ≡ [] → ((x : X) (xs : List X) → F (x ∷ xs) ≡ faults x ++ F xs) → (xs : List X) →
+    r ≡ reduce min (filter_map (λ x. least (faults x)) xs) → r ≡ least (F xs)
+lowest_items faults F none step xs h = h ∙ reduce_least (filter_map (λ x. least (faults x)) xs) ∙ least_items faults F none step xs
+
 -- of a list some part is left: the lowest so far, with that of what is left, is that of the whole
 pub record Rest (fault : Option ℕ) (left whole : List ℕ) : Type 0 where
   pub is : lower fault (least left) ≡ least whole
@@ -87,10 +114,6 @@ module _ {X : Type 0} where
   rest_end {fault} F xs i whole le none inv = rest_done whole (subst (λ l. Rest fault l whole) (ap F (drop_all i xs le) ∙ none) inv)
 
 -- a place that is at fault if a test holds
-pub fault_there : (test : Bool) (k : ℕ) → test ≡ true → Some k ≡ least (fault_if test k)
-fault_there true k e = sym (least_one k)
-fault_there false k e = absurd (clash e)
-
-pub fault_not_there : (test : Bool) (k : ℕ) → test ≡ false → None ≡ least (fault_if test k)
-fault_not_there true k e = absurd (clash (sym e))
-fault_not_there false k e = sym least_none
+pub fault_least : (test : Bool) (k : ℕ) → then_some test k ≡ least (fault_if test k)
+fault_least true k = sym (least_one k)
+fault_least false k = sym least_none

@@ -1,12 +1,18 @@
--- Names at fault: in a term by its shape, and as a loop goes through bindings and statements. Assumes nothing.
-use Rattle.std.proofs.Common.{◌≡◌, ℕ, ◌+◌, ◌<◌, ◌≤◌, List, map, length, get_or, drop, Some, None, Option, sym, refl, ap, ◌∙◌}
+-- Names at fault: in a term by its shape, of bindings and of statements. Assumes nothing.
+use Rattle.std.proofs.Common.{◌≡◌, ℕ, min, List, map, Some, None, Option, Box, ◌⊎◌, sym, refl, ap, ◌∙◌, inl, inr}
+use Rattle.std.specs.List.{filter_map, reduce}
 use Rattle.term.specs.declared.statement.Binding as program_binding
 use Rattle.term.specs.declared.statement.Statement as program
+use Rattle.term.specs.declared.term.Term as boxed
+use Rattle.term.specs.declared.term.Term.TheVariants.{Given as Given', Bound}
+use Rattle.term.specs.declared.term.Term.{Test, Complement, Ended}
+use Rattle.std.specs.declared.alloc.Global.{Global}
 use Rattle.term.specs.Least.{least, lower}
-use Rattle.term.specs.Terms.{Term, Given, Post, Infix, given, bound, unbound, test, complement, ended, joined}
+use Rattle.term.specs.Terms.{Term, Given, Post, Infix, given, bound, unbound, test, complement, ended, joined, term_of}
 use Rattle.term.specs.Statements.{binding_of, statement_of, statements_of}
 use Rattle.term.specs.Names.{unbound_names, binding_names, group_names, statement_names, name_faults}
-use Rattle.term.proofs.Lowering.{least_none, least_one, least_both, Rest, rest_turn, rest_end}
+use Rattle.term.proofs.Shapes.{shape_test, shape_complement, shape_ended}
+use Rattle.term.proofs.Lowering.{least_none, least_one, least_both, lowest_items}
 
 -- the term that is known by its shape has these
 names_are : {u v : Term} {r : Option ℕ} → u ≡ v → r ≡ least (unbound_names v) → r ≡ least (unbound_names u)
@@ -40,27 +46,22 @@ pub names_joined : {u l m : Term} {k : ℕ} {i : Infix} {r a b : Option ℕ} →
 unfolding unbound_names
 names_joined {l = l} {m} e h f g = names_are e (least_both (unbound_names l) (unbound_names m) h f g)
 
--- what is left of a group, and of the statements
-abbrev pub GroupLeft : Option ℕ → ℕ → List program_binding.Binding → Type 0
-GroupLeft fault i bs = Rest fault (group_names (map binding_of (drop i bs))) (group_names (map binding_of bs))
+-- what has no part, and what has the names of its part
+pub names_none : {t : boxed.Term} → ((g : Given) × (t ≡ Given' g)) ⊎ ((k : ℕ) × (i : ℕ) × (t ≡ Bound k i)) → None ≡ least (unbound_names (term_of t))
+names_none (inl (g, is)) = names_given (ap term_of is)
+names_none (inr (k, i, is)) = names_bound (ap term_of is)
 
-pub group_more : {fault here new : Option ℕ} (bs : List program_binding.Binding) (i : ℕ) (b : program_binding.Binding) → i < length bs → b ≡ get_or bs i b → GroupLeft fault i bs → here ≡ least (binding_names (binding_of b)) →
-    new ≡ lower fault here → GroupLeft new (i + 1) bs
+pub names_inside : {t u : boxed.Term} {b : Box boxed.Term Global} {r : Option ℕ} → ((k : ℕ) × (t ≡ Test k b)) ⊎ ((t ≡ Complement b) ⊎ ((k : ℕ) × (p : Post) × (t ≡ Ended k p b))) → u ≡ b.value →
+    r ≡ least (unbound_names (term_of u)) → r ≡ least (unbound_names (term_of t))
+names_inside (inl (k, is)) e h = names_test (shape_test is e) h
+names_inside (inr (inl is)) e h = names_complement (shape_complement is e) h
+names_inside (inr (inr (k, p, is))) e h = names_ended (shape_ended is e) h
+
+-- the first name at fault in a group, and in all statements
+pub group_least : {r : Option ℕ} (bs : List program_binding.Binding) → r ≡ reduce min (filter_map (λ b. least (binding_names (binding_of b))) bs) → r ≡ least (group_names (map binding_of bs))
 unfolding group_names
-group_more bs i b lt is inv h n = rest_turn (λ l. group_names (map binding_of l)) (λ l. group_names (map binding_of l)) bs i b (binding_names (binding_of b)) (group_names (map binding_of bs)) lt is refl inv h n
+group_least bs h = lowest_items (λ b. binding_names (binding_of b)) (λ l. group_names (map binding_of l)) refl (λ b l. refl) bs h
 
-pub group_done : {fault : Option ℕ} (bs : List program_binding.Binding) (i : ℕ) → length bs ≤ i → GroupLeft fault i bs → fault ≡ least (group_names (map binding_of bs))
-unfolding group_names
-group_done bs i le inv = rest_end (λ l. group_names (map binding_of l)) bs i (group_names (map binding_of bs)) le refl inv
-
-abbrev pub NamesLeft : Option ℕ → ℕ → List program.Statement → Type 0
-NamesLeft fault i ss = Rest fault (name_faults (statements_of (drop i ss))) (name_faults (statements_of ss))
-
-pub names_more : {fault here new : Option ℕ} (ss : List program.Statement) (i : ℕ) (s : program.Statement) → i < length ss → s ≡ get_or ss i s → NamesLeft fault i ss → here ≡ least (statement_names (statement_of s)) →
-    new ≡ lower fault here → NamesLeft new (i + 1) ss
+pub names_least : {r : Option ℕ} (ss : List program.Statement) → r ≡ reduce min (filter_map (λ s. least (statement_names (statement_of s))) ss) → r ≡ least (name_faults (statements_of ss))
 unfolding name_faults
-names_more ss i s lt is inv h n = rest_turn (λ l. name_faults (statements_of l)) (λ l. name_faults (statements_of l)) ss i s (statement_names (statement_of s)) (name_faults (statements_of ss)) lt is refl inv h n
-
-pub names_done : {fault : Option ℕ} (ss : List program.Statement) (i : ℕ) → length ss ≤ i → NamesLeft fault i ss → fault ≡ least (name_faults (statements_of ss))
-unfolding name_faults
-names_done ss i le inv = rest_end (λ l. name_faults (statements_of l)) ss i (name_faults (statements_of ss)) le refl inv
+names_least ss h = lowest_items (λ s. statement_names (statement_of s)) (λ l. name_faults (statements_of l)) refl (λ s l. refl) ss h

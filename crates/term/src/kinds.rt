@@ -1,5 +1,5 @@
 //! Kinds of terms, and the first sign, name or word that has an operand of the wrong kind.
-ghost use Rattle.std.specs.Prelude.{◌≡◌, not, [], ◌++◌, map, replicate, IfOk, if◌then◌else◌, None, OnOk, slice_index_or};
+ghost use Rattle.std.specs.Prelude.{◌≡◌, not, [], ◌++◌, map, IfOk, if◌then◌else◌, None, OnOk, slice_index_or};
 ghost use Rattle.term.specs.Least.{least, lower, fault_if, Lowest};
 ghost use Rattle.term.specs.Terms.{term_of};
 ghost use Rattle.term.specs.Statements.{binding_of, claim_of, statement_of, statements_of};
@@ -20,15 +20,62 @@ struct Kinded {
     fault: Option<usize>,
 }
 
+impl Kinded {
+    /// What has no sign.
+    fn plain(found: Kind) -> Kinded
+        ensures kind { result.kind ≡ found }
+        ensures fault { result.fault ≡ None }
+    {
+        Kinded {
+            kind: found,
+            fault: None,
+        }
+    }
+
+    /// A kind if the test holds; if not, the place is at fault.
+    fn ruled(test: bool, place: usize, found: Kind, inside: Option<usize>) -> Kinded
+        ensures kind { result.kind ≡ (if test then found else torn) }
+        ensures fault { result.fault ≡ lower (least (fault_if (not test) place)) inside }
+    {
+        Kinded {
+            kind: if test { found } else { Kind::Torn },
+            fault: unless(test, place, inside),
+        }
+    }
+
+    /// `[` and a set.
+    fn tested(self, place: usize) -> Kinded
+        ensures kind { result.kind ≡ (if as_set self.kind then behind self.kind relation else torn) }
+        ensures fault { result.fault ≡ lower (least (fault_if (not (as_set self.kind)) place)) self.fault }
+    {
+        let found = behind(self.kind, Kind::Relation);
+        Kinded::ruled(as_set(self.kind), place, found, self.fault)
+    }
+
+    /// A relation and a sign behind it.
+    fn ended(self, place: usize) -> Kinded
+        ensures kind { result.kind ≡ (if as_relation self.kind then self.kind else torn) }
+        ensures fault { result.fault ≡ lower (least (fault_if (not (as_relation self.kind)) place)) self.fault }
+    {
+        Kinded::ruled(as_relation(self.kind), place, self.kind, self.fault)
+    }
+
+    /// Two operands and the sign between them.
+    fn joined(self, place: usize, sign: Infix, right: Kinded) -> Kinded
+        ensures kind { result.kind ≡ (if fits sign self.kind right.kind then behind self.kind (behind right.kind (made_by sign self.kind)) else torn) }
+        ensures fault { result.fault ≡ lower (least (fault_if (not (fits sign self.kind right.kind)) place)) (lower self.fault right.fault) }
+    {
+        let found = behind(self.kind, behind(right.kind, made(sign, self.kind)));
+        let inside = lower(self.fault, right.fault);
+        Kinded::ruled(fits(sign, self.kind, right.kind), place, found, inside)
+    }
+}
+
 /// The kind of the binding with this number.
 fn kind_at(known: &[Kind], number: usize) -> Kind
     ensures { result ≡ slice_index_or known.now number torn }
 {
-    if number < known.len() {
-        known[number]
-    } else {
-        Kind::Torn
-    }
+    known.get(number).copied().unwrap_or(Kind::Torn)
 }
 
 /// The place if the test fails, or a lower one.
@@ -38,71 +85,22 @@ fn unless(test: bool, place: usize, inside: Option<usize>) -> Option<usize>
     lower(fault_if(!test, place), inside)
 }
 
-/// A kind if the test holds; if not, the place is at fault.
-fn ruled(test: bool, place: usize, found: Kind, inside: Option<usize>) -> Kinded
-    ensures kind { result.kind ≡ (if test then found else torn) }
-    ensures fault { result.fault ≡ lower (least (fault_if (not test) place)) inside }
-{
-    Kinded {
-        kind: if test { found } else { Kind::Torn },
-        fault: unless(test, place, inside),
-    }
-}
-
-/// What has no sign.
-fn plain(found: Kind) -> Kinded
-    ensures kind { result.kind ≡ found }
-    ensures fault { result.fault ≡ None }
-{
-    Kinded {
-        kind: found,
-        fault: None,
-    }
-}
-
-/// `[` and a set.
-fn tested(place: usize, inside: Kinded) -> Kinded
-    ensures kind { result.kind ≡ (if as_set inside.kind then behind inside.kind relation else torn) }
-    ensures fault { result.fault ≡ lower (least (fault_if (not (as_set inside.kind)) place)) inside.fault }
-{
-    let result = behind(inside.kind, Kind::Relation);
-    ruled(as_set(inside.kind), place, result, inside.fault)
-}
-
-/// A relation and a sign behind it.
-fn ended(place: usize, inside: Kinded) -> Kinded
-    ensures kind { result.kind ≡ (if as_relation inside.kind then inside.kind else torn) }
-    ensures fault { result.fault ≡ lower (least (fault_if (not (as_relation inside.kind)) place)) inside.fault }
-{
-    ruled(as_relation(inside.kind), place, inside.kind, inside.fault)
-}
-
-/// Two operands and the sign between them.
-fn joined(place: usize, sign: Infix, left: Kinded, right: Kinded) -> Kinded
-    ensures kind { result.kind ≡ (if fits sign left.kind right.kind then behind left.kind (behind right.kind (made_by sign left.kind)) else torn) }
-    ensures fault { result.fault ≡ lower (least (fault_if (not (fits sign left.kind right.kind)) place)) (lower left.fault right.fault) }
-{
-    let result = behind(left.kind, behind(right.kind, made(sign, left.kind)));
-    let inside = lower(left.fault, right.fault);
-    ruled(fits(sign, left.kind, right.kind), place, result, inside)
-}
-
 /// The kind of a term, and its first sign at fault, in one pass. The kinds of the bindings before it are known.
 fn examine(known: &[Kind], term: &Term) -> Kinded
     ensures kind { result.kind ≡ kind known.now (term_of term.now) }
     ensures fault { result.fault ≡ least (kind_faults known.now (term_of term.now)) }
 {
     match term {
-        Term::Given(given) => plain(given_kind(*given)),
-        Term::Bound(_, number) => plain(kind_at(known, *number)),
-        Term::Unbound(_) => plain(Kind::Torn),
-        Term::Test(place, inside) => tested(*place, examine(known, inside)),
+        Term::Given(given) => Kinded::plain(given_kind(*given)),
+        Term::Bound(_, number) => Kinded::plain(kind_at(known, *number)),
+        Term::Unbound(_) => Kinded::plain(Kind::Torn),
+        Term::Test(place, inside) => examine(known, inside).tested(*place),
         Term::Complement(inside) => examine(known, inside),
-        Term::Ended(place, _, inside) => ended(*place, examine(known, inside)),
+        Term::Ended(place, _, inside) => examine(known, inside).ended(*place),
         Term::Joined(place, sign, left, right) => {
             let first = examine(known, left);
             let second = examine(known, right);
-            joined(*place, *sign, first, second)
+            first.joined(*place, *sign, second)
         }
     }
 }
@@ -119,11 +117,10 @@ fn binding_kind(known: &[Kind], binding: &Binding) -> Option<usize>
 fn group_kind(known: &[Kind], bindings: &[Binding]) -> Option<usize>
     ensures { result ≡ least (group_kinds known.now (map binding_of bindings.now)) }
 {
-    let mut fault = None;
-    for binding in bindings {
-        fault = lower(fault, binding_kind(known, binding));
-    }
-    fault
+    bindings
+        .iter()
+        .filter_map(|binding| binding_kind(known, binding))
+        .min()
 }
 
 /// The first fault of a check: its word if that does not take the kind of its term, or a sign of its term.
@@ -135,13 +132,10 @@ fn check_kind(known: &[Kind], check: &Check) -> Option<usize>
 }
 
 /// The names of a group are relations.
-fn add_relations(known: &mut Vec<Kind>, many: usize) -> Result<(), AllocError>
-    ensures { OnOk result (known.new.items ≡ known.old.items ++ replicate many relation) }
+fn add_relations(known: &mut Vec<Kind>, bindings: &[Binding]) -> Result<(), AllocError>
+    ensures { OnOk result (known.new.items ≡ known.old.items ++ map (λ _. relation) bindings.now) }
 {
-    for _ in 0..many {
-        known.push(Kind::Relation)?;
-    }
-    Ok(())
+    known.extend(bindings.iter().map(|_| Kind::Relation))
 }
 
 /// The first fault of a statement; what it binds is known behind it.
@@ -156,7 +150,7 @@ fn statement_kind(known: &mut Vec<Kind>, statement: &Statement) -> Result<Option
             Ok(found.fault)
         }
         Statement::Group(bindings) => {
-            add_relations(known, bindings.len())?;
+            add_relations(known, bindings.as_slice())?;
             Ok(group_kind(known.as_slice(), bindings.as_slice()))
         }
         Statement::Check(check) => Ok(check_kind(known.as_slice(), check)),

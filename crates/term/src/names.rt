@@ -14,12 +14,11 @@ fn unbound(term: &Term) -> Option<usize>
     ensures { result ≡ least (unbound_names (term_of term.now)) }
 {
     match term {
-        Term::Given(_) => None,
-        Term::Bound(_, _) => None,
+        Term::Given(_) | Term::Bound(_, _) => None,
         Term::Unbound(place) => Some(*place),
-        Term::Test(_, inside) => unbound(inside),
-        Term::Complement(inside) => unbound(inside),
-        Term::Ended(_, _, inside) => unbound(inside),
+        Term::Test(_, inside) | Term::Complement(inside) | Term::Ended(_, _, inside) => {
+            unbound(inside)
+        }
         Term::Joined(_, _, left, right) => lower(unbound(left), unbound(right)),
     }
 }
@@ -38,11 +37,7 @@ fn binding_name(binding: &Binding) -> Option<usize>
 fn group_name(bindings: &[Binding]) -> Option<usize>
     ensures { result ≡ least (group_names (map binding_of bindings.now)) }
 {
-    let mut fault = None;
-    for binding in bindings {
-        fault = lower(fault, binding_name(binding));
-    }
-    fault
+    bindings.iter().filter_map(binding_name).min()
 }
 
 /// The first name at fault in a statement.
@@ -61,9 +56,5 @@ pub fn name_fault(statements: &[Statement]) -> Option<usize>
     ensures lowest { Lowest (name_faults (statements_of statements.now)) result }
     ensures least { result ≡ least (name_faults (statements_of statements.now)) }
 {
-    let mut fault = None;
-    for statement in statements {
-        fault = lower(fault, statement_name(statement));
-    }
-    fault
+    statements.iter().filter_map(statement_name).min()
 }

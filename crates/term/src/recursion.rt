@@ -10,45 +10,43 @@ use super::statement::{Binding, Statement};
 use super::term::Term;
 use sentence::sign::Infix;
 
-/// Whether the number is that of a binding of the group: one of so many from the first on.
-fn of_group(first: u128, many: usize, number: usize) -> bool
-    ensures { result ≡ of_group first many number }
-{
-    let number = number as u128;
-    number >= first && number - first < many as u128
+/// The numbers of a group's bindings: so many from the first on.
+#[derive(Clone, Copy)]
+struct Span {
+    first: u128,
+    many: usize,
+}
+
+impl Span {
+    /// Whether the number is that of a binding of the group.
+    fn has(self, number: usize) -> bool
+        ensures { result ≡ of_group self.first self.many number }
+    {
+        let number = number as u128;
+        number >= self.first && number - self.first < self.many as u128
+    }
 }
 
 /// Whether what stands right of this sign is denied.
 fn denies_right(sign: Infix) -> bool
     ensures { result ≡ denies_right sign }
 {
-    match sign {
-        Infix::Bar => false,
-        Infix::Semicolon => false,
-        Infix::Backslash => true,
-        Infix::Ampersand => false,
-        Infix::Product => false,
-    }
+    matches!(sign, Infix::Backslash)
 }
 
 /// The first of the group's names under `~` or right of `\`; the flag says whether the term itself stands so.
-fn denied(first: u128, many: usize, under: bool, term: &Term) -> Option<usize>
-    ensures { result ≡ least (denied first many under (term_of term.now)) }
+fn denied(group: Span, under: bool, term: &Term) -> Option<usize>
+    ensures { result ≡ least (denied group.first group.many under (term_of term.now)) }
 {
     match term {
-        Term::Given(_) => None,
-        Term::Bound(place, number) => fault_if(under & of_group(first, many, *number), *place),
-        Term::Unbound(_) => None,
-        Term::Test(_, inside) => denied(first, many, under, inside),
-        Term::Complement(inside) => denied(first, many, true, inside),
-        Term::Ended(_, _, inside) => denied(first, many, under, inside),
-        Term::Joined(_, sign, left, right) => {
-            let right_under = under | denies_right(*sign);
-            lower(
-                denied(first, many, under, left),
-                denied(first, many, right_under, right),
-            )
-        }
+        Term::Given(_) | Term::Unbound(_) => None,
+        Term::Bound(place, number) => fault_if(under && group.has(*number), *place),
+        Term::Test(_, inside) | Term::Ended(_, _, inside) => denied(group, under, inside),
+        Term::Complement(inside) => denied(group, true, inside),
+        Term::Joined(_, sign, left, right) => lower(
+            denied(group, under, left),
+            denied(group, under || denies_right(*sign), right),
+        ),
     }
 }
 
@@ -56,11 +54,14 @@ fn denied(first: u128, many: usize, under: bool, term: &Term) -> Option<usize>
 fn group_denied(first: u128, bindings: &[Binding]) -> Option<usize>
     ensures { result ≡ least (group_denied first (length bindings.now) (map binding_of bindings.now)) }
 {
-    let mut fault = None;
-    for binding in bindings {
-        fault = lower(fault, denied(first, bindings.len(), false, &binding.term));
-    }
-    fault
+    let group = Span {
+        first,
+        many: bindings.len(),
+    };
+    bindings
+        .iter()
+        .filter_map(|binding| denied(group, false, &binding.term))
+        .min()
 }
 
 /// How many bindings a statement has.
@@ -79,9 +80,8 @@ fn statement_denied(before: u128, statement: &Statement) -> Option<usize>
     ensures { result ≡ least (statement_denied before (statement_of statement.now)) }
 {
     match statement {
-        Statement::Let(_) => None,
         Statement::Group(bindings) => group_denied(before, bindings.as_slice()),
-        Statement::Check(_) => None,
+        _ => None,
     }
 }
 

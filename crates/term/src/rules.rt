@@ -34,22 +34,14 @@ pub(crate) fn given_kind(given: Given) -> Kind
 pub(crate) fn as_set(operand: Kind) -> bool
     ensures { result ≡ as_set operand }
 {
-    match operand {
-        Kind::Set => true,
-        Kind::Relation => false,
-        Kind::Torn => true,
-    }
+    operand != Kind::Relation
 }
 
 /// Whether it can serve as a relation.
 pub(crate) fn as_relation(operand: Kind) -> bool
     ensures { result ≡ as_relation operand }
 {
-    match operand {
-        Kind::Set => false,
-        Kind::Relation => true,
-        Kind::Torn => true,
-    }
+    operand != Kind::Set
 }
 
 /// Whether the two can be of one kind.
@@ -68,11 +60,9 @@ pub(crate) fn fits(sign: Infix, left: Kind, right: Kind) -> bool
     ensures { result ≡ fits sign left right }
 {
     match sign {
-        Infix::Bar => one_kind(left, right),
-        Infix::Semicolon => as_relation(left) & as_relation(right),
-        Infix::Backslash => one_kind(left, right),
-        Infix::Ampersand => one_kind(left, right),
-        Infix::Product => as_set(left) & as_set(right),
+        Infix::Bar | Infix::Backslash | Infix::Ampersand => one_kind(left, right),
+        Infix::Semicolon => as_relation(left) && as_relation(right),
+        Infix::Product => as_set(left) && as_set(right),
     }
 }
 
@@ -81,11 +71,8 @@ pub(crate) fn made(sign: Infix, left: Kind) -> Kind
     ensures { result ≡ made sign left }
 {
     match sign {
-        Infix::Bar => left,
-        Infix::Semicolon => Kind::Relation,
-        Infix::Backslash => left,
-        Infix::Ampersand => left,
-        Infix::Product => Kind::Relation,
+        Infix::Bar | Infix::Backslash | Infix::Ampersand => left,
+        Infix::Semicolon | Infix::Product => Kind::Relation,
     }
 }
 
@@ -94,9 +81,8 @@ pub(crate) fn behind(operand: Kind, kind: Kind) -> Kind
     ensures { result ≡ behind operand kind }
 {
     match operand {
-        Kind::Set => kind,
-        Kind::Relation => kind,
         Kind::Torn => Kind::Torn,
+        _ => kind,
     }
 }
 
@@ -104,9 +90,5 @@ pub(crate) fn behind(operand: Kind, kind: Kind) -> Kind
 pub(crate) fn takes(word: Word, operand: Kind) -> bool
     ensures { result ≡ takes word operand }
 {
-    match word {
-        Word::Acyclic => as_relation(operand),
-        Word::Irreflexive => as_relation(operand),
-        Word::Empty => true,
-    }
+    matches!(word, Word::Empty) || as_relation(operand)
 }

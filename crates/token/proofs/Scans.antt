@@ -6,7 +6,8 @@ use denote.Param.Members.{Mut, Called}
 use Rattle.std.specs.List.{position, position_from, IsSubsliceAt}
 use Rattle.std.proofs.lemmas.Iterator.Adapters.{position_from-zero}
 use Rattle.std.proofs.lemmas.List.{get_or_past}
-use Rattle.std.proofs.lemmas.Bool.{cond-true, cond-false, cases_lt}
+use Rattle.std.proofs.lemmas.Bool.{cond-true, cond-false, and_right, cases_lt}
+use Rattle.std.proofs.lemmas.Option.{IfSome_then}
 use Rattle.token.specs.Items.{goes_on, run, quote_from, end_from}
 use Rattle.token.proofs.Never.{no_way}
 
@@ -56,10 +57,6 @@ also_true : (b : Bool) → (b && true) ≡ b
 also_true true = refl
 also_true false = refl
 
-also_false : (b : Bool) → (b && false) ≡ false
-also_false true = refl
-also_false false = refl
-
 -- two bytes that were read from a place
 pair_read : (text pair : List ℕ) (at : ℕ) → length pair ≡ 2 → ((j d : ℕ) → j < 2 → get_or pair j d ≡ get_or text (at + j) d) → bytes_eq pair (42 ∷ 41 ∷ []) ≡ ends_at text at
 pair_read text [] at l r = absurd (omega arith)
@@ -72,7 +69,7 @@ pair_read text (a ∷ b ∷ c ∷ pair) at l r = absurd (omega arith)
 
 -- no `*)` stands past the last two bytes
 past_pairs : (text : List ℕ) (at : ℕ) → length text ≤ suc at → ends_at text at ≡ false
-past_pairs text at l = ap (λ x. eqb (get_or text at 0) 42 && eqb x 41) (get_or_past text (suc at) 0 l) ∙ also_false (eqb (get_or text at 0) 42)
+past_pairs text at l = ap (λ x. eqb (get_or text at 0) 42 && eqb x 41) (get_or_past text (suc at) 0 l) ∙ and_right (eqb (get_or text at 0) 42) false refl
 
 -- a pair at a place
 abbrev Pair : List ℕ → ℕ → Bor (List ℕ) → Type 0
@@ -95,10 +92,6 @@ windows_run size rest text s p from two left w =
     let t : rest p.from ≡ text = ap rest from ∙ left in
     subst (IsWindowsRun p 2) t (subst (λ k. IsWindowsRun p k (rest p.from)) n (w (omega arith)))
 
-if_some : {A : Type 0} {P Q : A → Type 0} (o : Option A) → ((x : A) → P x → Q x) → IfSome o P → IfSome o Q
-if_some None f h = tt
-if_some (Some x) f h = f x h
-
 is_some_and : {A : Type 0} {P Q : A → Type 0} (o : Option A) → ((x : A) → P x → Q x) → IsSomeAnd o P → IsSomeAnd o Q
 is_some_and None f h = h
 is_some_and (Some x) f h = f x h
@@ -109,7 +102,7 @@ pub pairs_tested : {S F : Type 0} {steps : S → Option (Bor (List ℕ)) → S �
     ((x : Bor (List ℕ)) (b : Bool) → Called g f (x, tt) b f → bytes_eq x.now (42 ∷ 41 ∷ []) ≡ b) →
     MatchOption result (IsTrue p.whole × AllItems p (λ x. bytes_eq x.now (42 ∷ 41 ∷ []) ≡ false))
     (λ i. (p.len ≡ i + 1) × IsSomeAnd (p.at i) (λ x. bytes_eq x.now (42 ∷ 41 ∷ []) ≡ true) × AllItemsBelow p i (λ x. bytes_eq x.now (42 ∷ 41 ∷ []) ≡ false))
-pairs_tested None p (whole, give) keeps calls = (whole, λ k. if_some (p.at k) (λ x. calls x false) (give keeps k))
+pairs_tested None p (whole, give) keeps calls = (whole, λ k. IfSome_then (p.at k) (give keeps k) (λ x. calls x false))
 pairs_tested (Some i) p (long, give) keeps calls =
     let r = give keeps in
     (long, is_some_and (p.at i) (λ x. calls x true) r.0, λ k l. is_some_and (p.at k) (λ x. calls x false) (r.1 k l))

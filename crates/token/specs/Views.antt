@@ -85,6 +85,6 @@ Refuses found (Some t) place (Stray there) = ⊥
 Refuses found (Some t) place (TooManyTokens there) = (length found ≡ 1024) × (place ≡ there)
 Refuses found (Some t) place Memory = Unit {0}
 
--- one of the two comes of a piece behind tokens that were kept; behind one that could not be kept, its fault stays
+-- what comes of a piece: tokens that were kept gain its token, or refuse it; an earlier refusal stays
 abbrev pub Keeps : Result (Vec Lexeme Global) ReadFault → Option Token → ℕ → Result (Vec Lexeme Global) ReadFault → Type 0
 Keeps old t place new = MatchResult old (λ found. MatchResult new (λ kept. Adds (vec_items found) t place (vec_items kept)) (Refuses (vec_items found) t place)) (λ fault. new ≡ Err fault)

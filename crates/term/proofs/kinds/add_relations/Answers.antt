@@ -1,10 +1,11 @@
-use Rattle.std.proofs.Common.{[], ◌∷◌, vec_items}
-use Rattle.std.proofs.lemmas.Slice.{pushed}
+use Rattle.std.proofs.Common.{rules, tests}
+use Rattle.std.proofs.lemmas.Iterator.{YieldsList-from_slice, YieldsList-from_map}
+use Rattle.std.proofs.lemmas.Iterator.Adapters.{items_from_extend}
+use Rattle.term.specs.declared.statement.Binding.{Binding}
 use Rattle.term.specs.Kinds.{relation}
-use Rattle.term.proofs.Kinding.{relations_more}
 use Rattle.term.proofs.kinds.add_relations.Goals as goal
 
-pub loop-preserved : goal.loop-preserved
-loop-preserved c =
-    relations_more (vec_items c.args.known.now) (vec_items c.push.new.self) c.loop.counter
-    (pushed {was = vec_items c.loop.known} {now = vec_items c.push.new.self} (relation ∷ []) c.loop.invariant c.in_ok-push.was c.push.ensures.items)
+pub returns : goal.returns
+returns c =
+    let h = items_from_extend c.extend.result c.extend.ensures.ran (YieldsList-from_map _ (λ (b : Binding). relation) (YieldsList-from_slice c.args.bindings.now cc) c.map.ensures.closure (λ x r q k. search (rules, tests))) in
+    search rules

@@ -1,8 +1,15 @@
-use Rattle.term.proofs.Kinding.{group_more, group_done}
+use Rattle.std.proofs.Common.{sym, ◌∙◌, rules, tests}
+use Rattle.std.proofs.lemmas.Iterator.{YieldsList-from_slice}
+use Rattle.std.proofs.lemmas.Iterator.Adapters.{option_map_id}
+use Rattle.std.proofs.lemmas.Iterator.Consumers.{YieldsList-from_filter_map, min_from_yields_List}
+use Rattle.term.specs.Least.{least}
+use Rattle.term.specs.Statements.{binding_of}
+use Rattle.term.specs.Kinds.{binding_kinds}
+use Rattle.term.proofs.Kinding.{group_least}
 use Rattle.term.proofs.kinds.group_kind.Goals as goal
 
-pub loop-binding-preserved : goal.loop-binding-preserved
-loop-binding-preserved c = group_more c.args.known.now c.args.bindings.now c.loop-binding.binding-index c.binding-item.result c.loop-binding-test.true c.binding-item.is c.loop-binding.invariant c.binding_kind.ensures c.lower-fault.ensures
-
 pub returns : goal.returns
-returns c = group_done c.args.known.now c.args.bindings.now c.loop-binding.binding-index c.loop-binding-test.false c.loop-binding.invariant
+returns c =
+    group_least c.args.known.now c.args.bindings.now
+    (sym (option_map_id c.min.result)
+    ∙ min_from_yields_List _ _ c.min.ensures.ran (YieldsList-from_filter_map _ (λ b. least (binding_kinds c.args.known.now (binding_of b))) (YieldsList-from_slice c.args.bindings.now cc) c.filter_map.ensures.closure (λ x r q k. search (rules, tests))))
