@@ -9,11 +9,6 @@ use Rattle.sentence.proofs.parser.Parser.denial.Goals as goal
 pub returns-in_default : goal.returns-in_default
 returns-in_default c = λ p. denial_off c.args.self.sorts.now c.args.at p c.args.flag (sym c.word_at.ensures ∙ c.in_default.is)
 
-pub overflow_add-at : goal.overflow_add-at
-overflow_add-at c =
-    let h : c.args.at < length c.args.self.sorts.now = here c.args.self.sorts.now c.args.at (speaks (words c.in-Some.word)) (word_so (first_role (drop c.args.at c.args.self.sorts.now)) c.in-Some.word (sym c.word_at.ensures ∙ c.in-Some.is)) in
-    search rules
-
 pub returns : goal.returns
 unfolding feed
 returns c =
