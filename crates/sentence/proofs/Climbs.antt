@@ -4,7 +4,7 @@ use Rattle.std.proofs.lemmas.Bool.{leb-true, leb-false}
 use Rattle.sentence.specs.declared.sort.Sort.{Sort}
 use Rattle.sentence.specs.declared.fault.SentenceFault.{SentenceFault}
 use Rattle.sentence.specs.declared.fault.SentenceFault.TheVariants.{Memory, Place}
-use Rattle.sentence.specs.Trees.{Leaf, Bracket, Post, Infix, bar, semicolon, backslash, ampersand, product, Tree, atom, inside, tilde, ended, joined, rank, level, bound, Sentence}
+use Rattle.sentence.specs.Trees.{Leaf, Bracket, Post, Infix, bar, product, Tree, atom, inside, tilde, ended, joined, rank, level, bound, Sentence}
 use Rattle.sentence.specs.Looks.{first_role, StandsAt, role_start, sign_at, post_at, sign_above}
 use Rattle.sentence.specs.Machine.{leaf, opens, closes, starts, goes, complements, fill, asked, Wait, nothing, behind, tilded, Frame, Owner, operand, after, feed, outcome}
 use Rattle.sentence.specs.Parsing.{Led, StuckAt, Faulted, Halts, Unprefixed, Opened}
@@ -86,10 +86,7 @@ no_sign ts next h = go (sign_at ts next) refl
   where
     least : (i : Infix) → 1 ≤ rank i
     least bar = omega arith
-    least semicolon = omega arith
-    least backslash = omega arith
-    least ampersand = omega arith
-    least product = omega arith
+    least i = omega arith
 
     go : (s : Option Infix) → sign_at ts next ≡ s → s ≡ None
     go None e = refl
@@ -133,12 +130,12 @@ climbing_first ts at n t next h stops =
 
 -- an infix sign on the rung or above
 above : (n : ℕ) (s : Option Infix) (i : Infix) → sign_above n s ≡ Some i → (s ≡ Some i) × (n ≤ rank i)
-above n None i e = let z : ◌≡◌ {A = ℕ} 0 1 = cc in absurd (omega arith)
+above n None i e = let no : ⊥ = cc in absurd no
 above n (Some j) i e = go (leb n (rank j)) refl e
   where
     go : (b : Bool) → leb n (rank j) ≡ b → cond b (Some j) None ≡ Some i → (Some j ≡ Some i) × (n ≤ rank i)
     go true f e = let same : j ≡ i = cc in (ap Some same, subst (λ x. n ≤ rank x) same (leb-true n (rank j) f))
-    go false f e = let z : ◌≡◌ {A = ℕ} 0 1 = cc in absurd (omega arith)
+    go false f e = let no : ⊥ = cc in absurd no
 
 pub sign_within : (ts : List Sort) (n next : ℕ) (i : Infix) → sign_above n (sign_at ts next) ≡ Some i → next < length ts
 sign_within ts n next i e = sign_here ts next i (above n (sign_at ts next) i e).0
@@ -151,11 +148,8 @@ infix_on ts at n t next i h e p o fs w k =
 
 -- what may follow a right operand binds no tighter than its sign
 no_tighter : (i j : Infix) → rank j < bound i → rank j ≤ rank i
-no_tighter bar j h = omega arith
-no_tighter semicolon j h = omega arith
-no_tighter backslash j h = omega arith
-no_tighter ampersand j h = omega arith
 no_tighter product j h = rank_most j
+no_tighter i j h = omega arith
 
 -- an infix sign and its right operand
 pub climbing_more : (ts : List Sort) (at n : ℕ) (t : Tree) (next : ℕ) (i : Infix) (b : ℕ) (r u : Tree) (end : ℕ) → Climbing ts at n t next → sign_above n (sign_at ts next) ≡ Some i → b ≡ bound i →
@@ -199,5 +193,5 @@ climbing_done ts at n t next h e = record { loose = λ i f. below i (ap (sign_ab
     below i e = go (leb n (rank i)) refl e
       where
         go : (b : Bool) → leb n (rank i) ≡ b → cond b (Some i) None ≡ None → rank i < n
-        go true f e = let z : ◌≡◌ {A = ℕ} 0 1 = cc in absurd (omega arith)
+        go true f e = let no : ⊥ = cc in absurd no
         go false f e = leb-false n (rank i) f

@@ -1,9 +1,8 @@
-use Rattle.std.proofs.Common.{◌<◌, length, refl, rules}
+use Rattle.std.proofs.Common.{refl}
 use Rattle.sentence.specs.Machine.{recs, speaks, let_seen, name_due, first, feed}
 use Rattle.sentence.specs.Exprs.{tree_of}
 use Rattle.sentence.specs.Statements.{Stated}
 use Rattle.sentence.proofs.Looking.{not_so, handed}
-use Rattle.sentence.proofs.Looked.{here}
 use Rattle.sentence.proofs.Phrases.{goes_let, stuck_let, step_stated}
 use Rattle.sentence.proofs.parser.Parser.binds.Goals as goal
 

@@ -1,9 +1,6 @@
-use Rattle.std.proofs.Common.{[]}
-use Rattle.sentence.specs.Machine.{operand, of_check, nothing}
 use Rattle.sentence.specs.Exprs.{tree_of}
-use Rattle.sentence.specs.Statements.{Stated, mark_of}
-use Rattle.sentence.proofs.Looking.{handed}
-use Rattle.sentence.proofs.Phrases.{claim_goes, claim_unmarked, claim_stuck}
+use Rattle.sentence.specs.Statements.{mark_of}
+use Rattle.sentence.proofs.Phrases.{claim_goes}
 use Rattle.sentence.proofs.parser.Parser.claim.Goals as goal
 
 pub returns : goal.returns

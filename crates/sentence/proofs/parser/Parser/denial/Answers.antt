@@ -1,7 +1,7 @@
-use Rattle.std.proofs.Common.{◌<◌, true, [], length, drop, sym, refl, ◌∙◌, rules}
+use Rattle.std.proofs.Common.{true, [], drop, sym, refl, ◌∙◌}
 use Rattle.sentence.specs.Looks.{first_role}
 use Rattle.sentence.specs.Machine.{words, speaks, tilde_seen, operand, of_check, nothing, feed}
-use Rattle.sentence.proofs.Looked.{here, word_so}
+use Rattle.sentence.proofs.Looked.{word_so}
 use Rattle.sentence.proofs.Heard.{denial_off}
 use Rattle.sentence.proofs.Phrases.{step_stated}
 use Rattle.sentence.proofs.parser.Parser.denial.Goals as goal

@@ -1,8 +1,5 @@
-use Rattle.std.proofs.Common.{◌<◌, length, rules}
-use Rattle.sentence.specs.Machine.{labels, speaks}
 use Rattle.sentence.specs.Statements.{Marks, mark_of}
 use Rattle.sentence.proofs.Looking.{not_so, handed}
-use Rattle.sentence.proofs.Looked.{here}
 use Rattle.sentence.proofs.Phrases.{mark_plain, mark_flag, mark_label, mark_nameless}
 use Rattle.sentence.proofs.parser.Parser.mark.Goals as goal
 

@@ -1,8 +1,8 @@
-use Rattle.std.proofs.Common.{◌<◌, true, false, [], length, drop, sym, refl, ◌∙◌, rules}
+use Rattle.std.proofs.Common.{true, false, [], drop, sym, refl, ◌∙◌}
 use Rattle.sentence.specs.Looks.{first_role}
 use Rattle.sentence.specs.Machine.{words, complements, speaks, flag_seen, tilde_seen, operand, of_check, nothing, feed}
 use Rattle.sentence.proofs.Looking.{not_so}
-use Rattle.sentence.proofs.Looked.{here, word_so}
+use Rattle.sentence.proofs.Looked.{word_so}
 use Rattle.sentence.proofs.Heard.{warning_off}
 use Rattle.sentence.proofs.Phrases.{step_stated}
 use Rattle.sentence.proofs.parser.Parser.warning.Goals as goal
