@@ -3,7 +3,7 @@ use Rattle.std.proofs.Common.{◌≡◌, ◌≤◌, List, [], ◌∷◌, ◌++�
 use Rattle.sentence.specs.declared.sort.Sort.{Sort}
 use Rattle.sentence.specs.declared.sort.Sort.TheVariants.{Tilde}
 use Rattle.sentence.specs.Trees.{Leaf, name, Bracket, round, square, Post, plus, closure, Infix, bar, product, Tree, atom, inside, tilde, ended, joined, leaf_sort, open_sort, close_sort, post_sort, infix_sort, spell, level, bound, Well, Word, acyclic, Statement, Sentence, word_sort}
-use Rattle.sentence.specs.Machine.{leaf, opens, joins, Speech, lets, flags, words, Role, starts, goes, complements, speaks, role, suffix, fill, asked, Wait, nothing, behind, tilded, Frame, Owner, State, ready, operand, after, starred, also, onto, finish, leaving, from_ready, spoken, opening, feed, accept, reads}
+use Rattle.sentence.specs.Machine.{leaf, opens, Speech, lets, flags, words, Role, starts, goes, complements, speaks, role, suffix, fill, asked, Wait, nothing, behind, tilded, Frame, Owner, State, ready, operand, after, starred, also, onto, finish, leaving, from_ready, spoken, opening, feed, accept, reads}
 use Rattle.sentence.proofs.Inserts.{asked_most, rank_most, insert_fill, suffix_fill, suffix_tight}
 
 -- the sorts do not begin an atom
@@ -23,10 +23,6 @@ role_leaf l = refl
 role_open : (b : Bracket) → role (open_sort b) ≡ starts (opens b)
 role_open round = refl
 role_open square = refl
-
-role_infix : (i : Infix) → role (infix_sort i) ≡ goes (joins i)
-role_infix bar = refl
-role_infix i = refl
 
 pub role_word : (w : Word) → role (word_sort w) ≡ speaks (words w)
 role_word acyclic = refl
