@@ -1,15 +1,15 @@
 -- How the parser's parts join, each against the machine. Assumes nothing.
-use Rattle.std.proofs.Common.{◌≡◌, ℕ, ◌+◌, ◌<◌, ◌≤◌, Bool, true, false, cond, leb, List, ◌∷◌, length, drop, Some, None, Option, sym, refl, ap, ◌∙◌, subst, arith}
-use Rattle.std.proofs.lemmas.Bool.{leb-true, leb-false}
+use Rattle.std.proofs.Common.{◌≡◌, ℕ, ◌+◌, ◌<◌, ◌≤◌, Bool, true, false, cond, leb, List, ◌∷◌, drop, Some, None, Option, sym, refl, ap, ◌∙◌, subst, arith}
+use Rattle.std.proofs.lemmas.Bool.{leb-true}
 use Rattle.sentence.specs.declared.sort.Sort.{Sort}
 use Rattle.sentence.specs.declared.fault.SentenceFault.{SentenceFault}
 use Rattle.sentence.specs.declared.fault.SentenceFault.TheVariants.{Memory, Place}
-use Rattle.sentence.specs.Trees.{Leaf, Bracket, Post, Infix, bar, semicolon, backslash, ampersand, product, Tree, atom, inside, tilde, ended, joined, rank, level, bound, Sentence}
+use Rattle.sentence.specs.Trees.{Leaf, Bracket, Post, Infix, bar, product, Tree, atom, inside, tilde, ended, joined, rank, level, bound, Sentence}
 use Rattle.sentence.specs.Looks.{first_role, StandsAt, role_start, sign_at, post_at, sign_above}
 use Rattle.sentence.specs.Machine.{leaf, opens, closes, starts, goes, complements, fill, asked, Wait, nothing, behind, tilded, Frame, Owner, operand, after, feed, outcome}
 use Rattle.sentence.specs.Parsing.{Led, StuckAt, Faulted, Halts, Unprefixed, Opened}
-use Rattle.sentence.proofs.Inserts.{asked_most, rank_most, insert_fill, suffix_fill, suffix_tight}
-use Rattle.sentence.proofs.Looked.{here, sign_here, post_here, takes, starts_not, sign_on, post_on, shuts, closes_not}
+use Rattle.sentence.proofs.Inserts.{rank_most, insert_fill, suffix_fill, suffix_tight}
+use Rattle.sentence.proofs.Looked.{here, post_here, takes, starts_not, sign_on, post_on, shuts, closes_not}
 
 -- a leaf
 pub led_leaf : (ts : List Sort) (at : ℕ) (l : Leaf) → StandsAt ts at (starts (leaf l)) → Led ts at 7 7 (atom l) (at + 1)
@@ -45,10 +45,6 @@ led_prefix ts at t u next e h same =
 pub fault_prefix : (ts : List Sort) (at : ℕ) (f : SentenceFault) → StandsAt ts at complements → Faulted ts (at + 1) 7 f → Faulted ts at 7 f
 fault_prefix ts at Memory e h = tt
 fault_prefix ts at (Place k) e h = λ p o fs w j. prefix_on ts at e p o fs w ∙ h p o fs (tilded w) (omega arith)
-
--- what holds together tightly holds together
-pub led_loosely : (ts : List Sort) (at n m : ℕ) (t : Tree) (next : ℕ) → Led ts at 7 n t next → m ≤ n → Led ts at 7 m t next
-led_loosely ts at n m t next h k = record { leads = h.leads; past = h.past; within = h.within; tight = omega (arith, h.tight) }
 
 -- between brackets
 between_on : (ts : List Sort) (at : ℕ) (b : Bracket) → Opened ts at b → (p : Sentence) (o : Owner) (fs : List Frame) (w : Wait) →
@@ -86,10 +82,7 @@ no_sign ts next h = go (sign_at ts next) refl
   where
     least : (i : Infix) → 1 ≤ rank i
     least bar = omega arith
-    least semicolon = omega arith
-    least backslash = omega arith
-    least ampersand = omega arith
-    least product = omega arith
+    least i = omega arith
 
     go : (s : Option Infix) → sign_at ts next ≡ s → s ≡ None
     go None e = refl
@@ -113,35 +106,20 @@ led_post ts at t u next q h e same =
       tight = omega arith;
     })
 
-pub halts_post : (ts : List Sort) (next : ℕ) → post_at ts next ≡ None → Halts ts 7 next
-halts_post ts next e = record { loose = λ i h. omega (arith, rank_most i); bare = e }
-
 -- an expression on the ladder: what follows it binds no tighter than it
 pub record Climbing (ts : List Sort) (at n : ℕ) (t : Tree) (next : ℕ) : Type 0 where
   pub led : Led ts at n 0 t next
   pub meets : (i : Infix) → sign_at ts next ≡ Some i → rank i ≤ level t
   pub bare : post_at ts next ≡ None
 
--- the first operand
-pub climbing_first : (ts : List Sort) (at n : ℕ) (t : Tree) (next : ℕ) → Led ts at 7 6 t next → Halts ts 7 next → Climbing ts at n t next
-climbing_first ts at n t next h stops =
-    record {
-      led = record { leads = λ p o fs w k. h.leads p o fs w (asked_most w); past = h.past; within = h.within; tight = omega arith };
-      meets = λ i e. omega (arith, rank_most i, h.tight);
-      bare = stops.bare;
-    }
-
 -- an infix sign on the rung or above
 above : (n : ℕ) (s : Option Infix) (i : Infix) → sign_above n s ≡ Some i → (s ≡ Some i) × (n ≤ rank i)
-above n None i e = let z : ◌≡◌ {A = ℕ} 0 1 = cc in absurd (omega arith)
+above n None i e = let no : ⊥ = cc in absurd no
 above n (Some j) i e = go (leb n (rank j)) refl e
   where
     go : (b : Bool) → leb n (rank j) ≡ b → cond b (Some j) None ≡ Some i → (Some j ≡ Some i) × (n ≤ rank i)
     go true f e = let same : j ≡ i = cc in (ap Some same, subst (λ x. n ≤ rank x) same (leb-true n (rank j) f))
-    go false f e = let z : ◌≡◌ {A = ℕ} 0 1 = cc in absurd (omega arith)
-
-pub sign_within : (ts : List Sort) (n next : ℕ) (i : Infix) → sign_above n (sign_at ts next) ≡ Some i → next < length ts
-sign_within ts n next i e = sign_here ts next i (above n (sign_at ts next) i e).0
+    go false f e = let no : ⊥ = cc in absurd no
 
 infix_on : (ts : List Sort) (at n : ℕ) (t : Tree) (next : ℕ) (i : Infix) → Climbing ts at n t next → sign_above n (sign_at ts next) ≡ Some i → (p : Sentence) (o : Owner) (fs : List Frame) (w : Wait) → asked w ≤ n →
     outcome (operand p o fs w) at (drop at ts) ≡ outcome (operand p o fs (behind (fill w t) i)) (next + 1) (drop (next + 1) ts)
@@ -151,11 +129,8 @@ infix_on ts at n t next i h e p o fs w k =
 
 -- what may follow a right operand binds no tighter than its sign
 no_tighter : (i j : Infix) → rank j < bound i → rank j ≤ rank i
-no_tighter bar j h = omega arith
-no_tighter semicolon j h = omega arith
-no_tighter backslash j h = omega arith
-no_tighter ampersand j h = omega arith
 no_tighter product j h = rank_most j
+no_tighter i j h = omega arith
 
 -- an infix sign and its right operand
 pub climbing_more : (ts : List Sort) (at n : ℕ) (t : Tree) (next : ℕ) (i : Infix) (b : ℕ) (r u : Tree) (end : ℕ) → Climbing ts at n t next → sign_above n (sign_at ts next) ≡ Some i → b ≡ bound i →
@@ -185,19 +160,3 @@ climbing_more ts at n t next i b r u end h e is right stops same =
 pub fault_right : (ts : List Sort) (at n : ℕ) (t : Tree) (next : ℕ) (i : Infix) (b : ℕ) (f : SentenceFault) → Climbing ts at n t next → sign_above n (sign_at ts next) ≡ Some i → b ≡ bound i → Faulted ts (next + 1) b f → Faulted ts at n f
 fault_right ts at n t next i b Memory h e is g = tt
 fault_right ts at n t next i b (Place k) h e is g = λ p o fs w j. infix_on ts at n t next i h e p o fs w j ∙ g p o fs (behind (fill w t) i) (omega arith)
-
--- the first operand is at fault
-pub fault_first : (ts : List Sort) (at n : ℕ) (f : SentenceFault) → Faulted ts at 7 f → Faulted ts at n f
-fault_first ts at n Memory h = tt
-fault_first ts at n (Place k) h = λ p o fs w j. h p o fs w (asked_most w)
-
--- no further sign on the rung
-pub climbing_done : (ts : List Sort) (at n : ℕ) (t : Tree) (next : ℕ) → Climbing ts at n t next → sign_above n (sign_at ts next) ≡ None → Halts ts n next
-climbing_done ts at n t next h e = record { loose = λ i f. below i (ap (sign_above n) (sym f) ∙ e); bare = h.bare }
-  where
-    below : (i : Infix) → sign_above n (Some i) ≡ None → rank i < n
-    below i e = go (leb n (rank i)) refl e
-      where
-        go : (b : Bool) → leb n (rank i) ≡ b → cond b (Some i) None ≡ None → rank i < n
-        go true f e = let z : ◌≡◌ {A = ℕ} 0 1 = cc in absurd (omega arith)
-        go false f e = leb-false n (rank i) f

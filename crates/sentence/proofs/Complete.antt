@@ -1,10 +1,10 @@
 -- The machine reads every well grouped sentence off its spelling, so that sorts have one sentence at most. Assumes nothing.
 use Rattle.std.proofs.Common.{◌≡◌, Bool, true, false, List, [], ◌∷◌, ◌++◌, Some, sym, refl, ap, ◌∙◌, append_assoc, append-nil, arith}
 use Rattle.sentence.specs.declared.sort.Sort.{Sort}
-use Rattle.sentence.specs.Trees.{Tree, spell, Well, Word, acyclic, irreflexive, empty, Mark, plain, labelled, flagged, Statement, binds, groups, checks, Sentence, mark_front, mark_back, negation, word_sort, spell_more, spell_statement, spell_statements, spell_text, AllWell, WellStatement, WellStatements}
+use Rattle.sentence.specs.Trees.{Tree, spell, Well, Word, acyclic, Mark, plain, labelled, flagged, Statement, binds, groups, checks, Sentence, mark_front, mark_back, negation, word_sort, spell_more, spell_statement, spell_statements, spell_text, AllWell, WellStatement, WellStatements}
 use Rattle.sentence.specs.Texts.{Writes}
 use Rattle.sentence.specs.Laws.{OneTree}
-use Rattle.sentence.specs.Machine.{Speech, titles, lets, recs, ands, flags, labels, equals, words, Role, starts, goes, complements, speaks, role, fill, nothing, Binding, single, first, more, of_binding, of_check, begun, ready, tilde_seen, flag_seen, operand, after, also, blank, onto, opening, feed, accept, reads}
+use Rattle.sentence.specs.Machine.{Speech, titles, words, Role, speaks, role, fill, nothing, Binding, single, first, more, of_binding, of_check, begun, ready, tilde_seen, flag_seen, operand, after, also, blank, onto, opening, feed, accept, reads}
 use Rattle.sentence.proofs.Expressions.{Still, Opens, OpensRole, OpensSpeech, opens_still, role_word, step, read_tree, leave}
 
 -- what follows a binding in its group begins no atom
@@ -89,25 +89,20 @@ read_statement (checks m n w t) p rest good h =
 -- statements begin with what begins a statement
 opens_word : (w : Word) (rest : List Sort) → Opens (word_sort w ∷ rest)
 opens_word acyclic rest = tt
-opens_word irreflexive rest = tt
-opens_word empty rest = tt
+opens_word w rest = tt
 
 opens_check : (m : Mark) (n : Bool) (w : Word) (rest : List Sort) → Opens (mark_front m ++ (negation n ++ (word_sort w ∷ rest)))
-opens_check plain true w rest = tt
 opens_check plain false w rest = opens_word w rest
-opens_check labelled true w rest = tt
 opens_check labelled false w rest = opens_word w rest
-opens_check flagged n w rest = tt
+opens_check m n w rest = tt
 
 opens_more : (ts rest : List Sort) → Opens rest → Opens ts → Opens (ts ++ rest)
 opens_more [] rest h k = h
 opens_more (s ∷ ts) rest h k = k
 
 pub opens_statements : (ss : List Statement) → Opens (spell_statements ss)
-opens_statements [] = tt
-opens_statements (binds t ∷ ss) = tt
-opens_statements (groups t ts ∷ ss) = tt
 opens_statements (checks m n w t ∷ ss) = opens_more (spell_statement (checks m n w t)) (spell_statements ss) (opens_statements ss) (opens_check m n w (spell t ++ mark_back m))
+opens_statements ss = tt
 
 -- statements are read off their spelling
 read_statements : (ss : List Statement) (p : Sentence) → WellStatements ss → reads (ready p) (spell_statements ss) ≡ Some (record { titled = p.titled; statements = p.statements ++ ss })
@@ -126,19 +121,11 @@ begun_ready (s ∷ ts) h = ap (λ x. onto x (λ d. reads d ts)) (go (role s) h)
   where
     said : (a : Speech) → OpensSpeech a → feed begun (speaks a) ≡ opening (blank false) a
     said titles h = elim h [ ]
-    said lets h = refl
-    said recs h = refl
-    said ands h = refl
-    said flags h = refl
-    said labels h = refl
-    said equals h = refl
-    said (words w) h = refl
+    said a h = refl
 
     go : (r : Role) → OpensRole r → feed begun r ≡ feed (ready (blank false)) r
-    go (starts a) h = refl
-    go (goes g) h = refl
-    go complements h = refl
     go (speaks a) h = said a h
+    go r h = refl
 
 -- a sentence is read off its spelling
 pub read_text : (x : Sentence) → WellStatements x.statements → reads begun (spell_text x) ≡ Some x

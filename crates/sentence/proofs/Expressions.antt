@@ -2,16 +2,14 @@
 use Rattle.std.proofs.Common.{◌≡◌, ◌≤◌, List, [], ◌∷◌, ◌++◌, Some, refl, ap, ◌∙◌, append_assoc, arith}
 use Rattle.sentence.specs.declared.sort.Sort.{Sort}
 use Rattle.sentence.specs.declared.sort.Sort.TheVariants.{Tilde}
-use Rattle.sentence.specs.Trees.{Leaf, name, universe, no_pairs, no_events, Bracket, round, square, Post, plus, closure, question, inverse, Infix, bar, semicolon, backslash, ampersand, product, Tree, atom, inside, tilde, ended, joined, leaf_sort, open_sort, close_sort, post_sort, infix_sort, spell, level, bound, Well, Word, acyclic, irreflexive, empty, Statement, Sentence, word_sort}
-use Rattle.sentence.specs.Machine.{leaf, opens, joins, Speech, titles, lets, recs, ands, flags, labels, equals, words, Role, starts, goes, complements, speaks, role, suffix, fill, asked, Wait, nothing, behind, tilded, Frame, Owner, State, ready, operand, after, starred, also, onto, finish, leaving, from_ready, spoken, opening, feed, accept, reads}
+use Rattle.sentence.specs.Trees.{Leaf, name, Bracket, round, square, Post, plus, closure, Infix, bar, product, Tree, atom, inside, tilde, ended, joined, leaf_sort, open_sort, close_sort, post_sort, infix_sort, spell, level, bound, Well, Word, acyclic, Statement, Sentence, word_sort}
+use Rattle.sentence.specs.Machine.{leaf, opens, Speech, lets, flags, words, Role, starts, goes, complements, speaks, role, suffix, fill, asked, Wait, nothing, behind, tilded, Frame, Owner, State, ready, operand, after, starred, also, onto, finish, leaving, from_ready, spoken, opening, feed, accept, reads}
 use Rattle.sentence.proofs.Inserts.{asked_most, rank_most, insert_fill, suffix_fill, suffix_tight}
 
 -- the sorts do not begin an atom
 abbrev pub StillRole : Role → Type 0
 StillRole (starts s) = ⊥
-StillRole (goes g) = Unit {0}
-StillRole complements = Unit {0}
-StillRole (speaks s) = Unit {0}
+StillRole r = Unit {0}
 
 abbrev pub Still : List Sort → Type 0
 Still [] = Unit {0}
@@ -20,25 +18,15 @@ Still (s ∷ ts) = StillRole (role s)
 -- the roles of signs
 role_leaf : (l : Leaf) → role (leaf_sort l) ≡ starts (leaf l)
 role_leaf name = refl
-role_leaf universe = refl
-role_leaf no_pairs = refl
-role_leaf no_events = refl
+role_leaf l = refl
 
 role_open : (b : Bracket) → role (open_sort b) ≡ starts (opens b)
 role_open round = refl
 role_open square = refl
 
-role_infix : (i : Infix) → role (infix_sort i) ≡ goes (joins i)
-role_infix bar = refl
-role_infix semicolon = refl
-role_infix backslash = refl
-role_infix ampersand = refl
-role_infix product = refl
-
 pub role_word : (w : Word) → role (word_sort w) ≡ speaks (words w)
 role_word acyclic = refl
-role_word irreflexive = refl
-role_word empty = refl
+role_word w = refl
 
 pub still_close : (b : Bracket) (rest : List Sort) → Still (close_sort b ∷ rest)
 still_close round rest = tt
@@ -46,16 +34,11 @@ still_close square rest = tt
 
 still_post : (s : Post) (rest : List Sort) → Still (post_sort s ∷ rest)
 still_post plus rest = tt
-still_post closure rest = tt
-still_post question rest = tt
-still_post inverse rest = tt
+still_post s rest = tt
 
 still_infix : (i : Infix) (rest : List Sort) → Still (infix_sort i ∷ rest)
 still_infix bar rest = tt
-still_infix semicolon rest = tt
-still_infix backslash rest = tt
-still_infix ampersand rest = tt
-still_infix product rest = tt
+still_infix i rest = tt
 
 -- a star that nothing follows up is the closure
 pub starred_still : (p : Sentence) (o : Owner) (fs : List Frame) (t : Tree) (rest : List Sort) → Still rest → reads (starred p o fs t) rest ≡ reads (after p o fs (suffix t closure)) rest
@@ -65,9 +48,7 @@ starred_still p o fs t (s ∷ ts) h = go (role s) h
   where
     go : (r : Role) → StillRole r → onto (feed (starred p o fs t) r) (λ d. reads d ts) ≡ onto (feed (after p o fs (suffix t closure)) r) (λ d. reads d ts)
     go (starts s) h = elim h [ ]
-    go (goes g) h = refl
-    go complements h = refl
-    go (speaks s) h = refl
+    go r h = refl
 
 -- one step along a sort
 pub step : (c : State) (s : Sort) (r : Role) (d : State) (ts : List Sort) → role s ≡ r → feed c r ≡ Some d → reads c (s ∷ ts) ≡ reads d ts
@@ -88,20 +69,15 @@ starred_tight (joined i a b) p o fs t rest w h = absurd (omega (arith, rank_most
 read_infix : (i : Infix) (r : Tree) (p : Sentence) (o : Owner) (fs : List Frame) (t : Tree) (rest : List Sort) → Well r → bound i ≤ level r →
     reads (after p o fs t) (infix_sort i ∷ (spell r ++ rest)) ≡ reads (operand p o fs (behind t i)) (spell r ++ rest)
 unfolding reads feed
-read_infix bar r p o fs t rest w h = refl
-read_infix semicolon r p o fs t rest w h = refl
-read_infix backslash r p o fs t rest w h = refl
-read_infix ampersand r p o fs t rest w h = refl
 read_infix product r p o fs t rest w h = starred_tight r p o fs t rest w h
+read_infix i r p o fs t rest w h = refl
 
 -- a sign behind an expression
 read_post : (s : Post) (p : Sentence) (o : Owner) (fs : List Frame) (t : Tree) (rest : List Sort) → Still rest →
     reads (after p o fs t) (post_sort s ∷ rest) ≡ reads (after p o fs (suffix t s)) rest
 unfolding reads feed
-read_post plus p o fs t rest h = refl
 read_post closure p o fs t rest h = starred_still p o fs t rest h
-read_post question p o fs t rest h = refl
-read_post inverse p o fs t rest h = refl
+read_post s p o fs t rest h = refl
 
 -- a bracket closes
 pub read_close : (b : Bracket) (p : Sentence) (o : Owner) (fs : List Frame) (w : Wait) (t : Tree) (rest : List Sort) →
@@ -137,14 +113,10 @@ read_tree (joined i l r) p o fs w rest good h still =
 
 -- the sorts end, or begin a statement
 abbrev pub OpensSpeech : Speech → Type 0
-OpensSpeech titles = ⊥
 OpensSpeech lets = Unit {0}
-OpensSpeech recs = ⊥
-OpensSpeech ands = ⊥
 OpensSpeech flags = Unit {0}
-OpensSpeech labels = ⊥
-OpensSpeech equals = ⊥
 OpensSpeech (words w) = Unit {0}
+OpensSpeech r = ⊥
 
 abbrev pub OpensRole : Role → Type 0
 OpensRole (starts s) = ⊥
@@ -162,9 +134,7 @@ opens_still (s ∷ ts) h = go (role s) h
   where
     go : (r : Role) → OpensRole r → StillRole r
     go (starts s) h = h
-    go (goes g) h = tt
-    go complements h = tt
-    go (speaks s) h = tt
+    go r h = tt
 
 -- a statement ends where the next begins, or the text ends
 pub leave : (p : Sentence) (o : Owner) (t : Tree) (s : Statement) (rest : List Sort) → finish o t ≡ Some s → Opens rest → reads (after p o [] t) rest ≡ reads (ready (also p s)) rest
@@ -176,14 +146,10 @@ leave p o t s (a ∷ rest) e h = ap (λ x. onto x (λ d. reads d rest)) (go (rol
     from r = ap (λ x. onto x (λ s. from_ready (also p s) r)) e
 
     said : (a : Speech) → OpensSpeech a → spoken p o t a ≡ opening (also p s) a
-    said titles h = elim h [ ]
     said lets h = from (speaks lets)
-    said recs h = elim h [ ]
-    said ands h = elim h [ ]
     said flags h = from (speaks flags)
-    said labels h = elim h [ ]
-    said equals h = elim h [ ]
     said (words w) h = from (speaks (words w))
+    said a h = elim h [ ]
 
     go : (r : Role) → OpensRole r → feed (after p o [] t) r ≡ feed (ready (also p s)) r
     go (starts a) h = elim h [ ]

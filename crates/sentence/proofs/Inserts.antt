@@ -1,47 +1,32 @@
 -- Insertion into a tree: where it goes, how it is written, and that it keeps the grouping. Assumes nothing.
 use Rattle.std.proofs.Common.{◌≡◌, ℕ, ◌<◌, ◌≤◌, Bool, true, false, cond, leb, sym, refl, ap, ◌∙◌, arith}
 use Rattle.std.proofs.lemmas.Bool.{leb-true, leb-false, le-leb, lt-leb}
-use Rattle.sentence.specs.Trees.{Infix, bar, semicolon, backslash, ampersand, product, Post, Tree, atom, inside, tilde, ended, joined, rank, level, bound}
+use Rattle.sentence.specs.Trees.{Infix, bar, product, Post, Tree, atom, inside, tilde, ended, joined, rank, level, bound}
 use Rattle.sentence.specs.Machine.{insert, suffix, fill, asked, Wait, nothing, behind, tilded}
 
 -- infix signs bind looser than all else; a right operand holds together tighter than its sign
 pub rank_most : (i : Infix) → rank i ≤ 5
 rank_most bar = omega arith
-rank_most semicolon = omega arith
-rank_most backslash = omega arith
-rank_most ampersand = omega arith
-rank_most product = omega arith
+rank_most i = omega arith
 
 pub bound_most : (i : Infix) → bound i ≤ 7
 bound_most bar = omega arith
-bound_most semicolon = omega arith
-bound_most backslash = omega arith
-bound_most ampersand = omega arith
-bound_most product = omega arith
+bound_most i = omega arith
 
 pub bound_above : (i : Infix) → rank i < bound i
 bound_above bar = omega arith
-bound_above semicolon = omega arith
-bound_above backslash = omega arith
-bound_above ampersand = omega arith
-bound_above product = omega arith
+bound_above i = omega arith
 
 -- a tighter sign may stand in the right operand
 pub bound_within : (i j : Infix) → rank i < rank j → bound i ≤ rank j
-bound_within bar j h = h
-bound_within semicolon j h = h
-bound_within backslash j h = h
-bound_within ampersand j h = h
 bound_within product j h = absurd (omega (arith, rank_most j))
+bound_within i j h = h
 
 -- a tighter expression is inserted whole
 pub insert_tight : (t : Tree) (i : Infix) (v : Tree) → rank i ≤ level t → insert t i v ≡ joined i t v
 unfolding insert
-insert_tight (atom l) i v h = refl
-insert_tight (inside b t) i v h = refl
-insert_tight (tilde t) i v h = refl
-insert_tight (ended t p) i v h = refl
 insert_tight (joined j a b) i v h = rw (le-leb (rank i) (rank j) h) refl
+insert_tight t i v h = refl
 
 -- into a looser one the sign goes down the right operand
 pub insert_loose : (j : Infix) (a b : Tree) (i : Infix) (v : Tree) → rank j < rank i → insert (joined j a b) i v ≡ joined j a (insert b i v)
@@ -101,11 +86,9 @@ suffix_fill (tilded w) x s = suffix_fill w (tilde x) s
 -- behind what holds together it stands by itself
 pub suffix_tight : (t : Tree) (s : Post) → 7 ≤ level t → suffix t s ≡ ended t s
 unfolding suffix
-suffix_tight (atom l) s h = refl
-suffix_tight (inside b t) s h = refl
 suffix_tight (tilde t) s h = absurd (omega arith)
-suffix_tight (ended t p) s h = refl
 suffix_tight (joined i a b) s h = absurd (omega (arith, rank_most i))
+suffix_tight t s h = refl
 
 -- no operand has to hold together tighter than an atom
 pub asked_most : (w : Wait) → asked w ≤ 7

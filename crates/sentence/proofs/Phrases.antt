@@ -127,10 +127,6 @@ module _ (ts : List Sort) where
         within = h.within;
       }
 
-  pub stuck_first : (at : ℕ) (f : SentenceFault) → Unbound ts at f → GetsStuck (λ p. name_due p first) ts at f
-  stuck_first at Memory h = tt
-  stuck_first at (Place k) h = λ p. h p first
-
   -- a check's mark behind its expression
   pub mark_plain : (at : ℕ) (f : Bool) → f ≡ false → at ≤ length ts → Halts ts 1 at → ¬ StandsAt ts at (speaks labels) → GoesMarked ts at f plain at
   mark_plain at f off within stops e =
@@ -167,14 +163,6 @@ module _ (ts : List Sort) where
   -- a check behind its word
   pub claim_goes : (at : ℕ) (f n : Bool) (w : Word) (t : Tree) (next : ℕ) (m : Mark) (end : ℕ) → Led ts at 1 0 t next → GoesMarked ts next f m end → GoesOn (λ p. operand p (of_check f n w) [] nothing) ts at (checks m n w t) end
   claim_goes at f n w t next m end h g = record { leads = λ p. whole at t next h p (of_check f n w) ∙ g.leads p n w t; past = omega (arith, h.past, g.past); within = g.within }
-
-  pub claim_unmarked : (at : ℕ) (f n : Bool) (w : Word) (t : Tree) (next : ℕ) (x : SentenceFault) → Led ts at 1 0 t next → Unmarked ts next f x → GetsStuck (λ p. operand p (of_check f n w) [] nothing) ts at x
-  claim_unmarked at f n w t next Memory h g = tt
-  claim_unmarked at f n w t next (Place k) h g = λ p. whole at t next h p (of_check f n w) ∙ g p n w t
-
-  pub claim_stuck : (at : ℕ) (f n : Bool) (w : Word) (x : SentenceFault) → Faulted ts at 1 x → GetsStuck (λ p. operand p (of_check f n w) [] nothing) ts at x
-  claim_stuck at f n w Memory h = tt
-  claim_stuck at f n w (Place k) h = λ p. h p (of_check f n w) [] nothing (omega arith)
 
   -- no statement begins
   pub ready_none : (at : ℕ) → at < length ts → ¬ StandsAt ts at complements → role_speech (first_role (drop at ts)) ≡ None → (p : Sentence) → outcome (ready p) at (drop at ts) ≡ Err at

@@ -53,7 +53,7 @@ outcome_stuck [] c i k h = go (accept c) refl h
   where
     go : (a : Option Sentence) → accept c ≡ a → told_end a i ≡ Err k → (m : ℕ) × (k ≡ i + m) × Stuck c [] m
     go None e h = let same : i ≡ k = cc in (0, omega arith, record { state = c; before = refl; fault = inr (refl, e) })
-    go (Some x) e h = let z : ◌≡◌ {A = ℕ} 0 1 = cc in absurd (omega arith)
+    go (Some x) e h = let no : ⊥ = cc in absurd no
 outcome_stuck (s ∷ ts) c i k h = go (λ d. outcome_stuck ts d (suc i) k) (feed c (role s)) refl h
   where
     go : ((d : State) → outcome d (suc i) ts ≡ Err k → (m : ℕ) × (k ≡ suc i + m) × Stuck d ts m) → (f : Option State) → feed c (role s) ≡ f →
@@ -69,12 +69,12 @@ unfolding outcome reads
 outcome_reads [] c i x h = go (accept c) h
   where
     go : (a : Option Sentence) → told_end a i ≡ Ok x → a ≡ Some x
-    go None h = let z : ◌≡◌ {A = ℕ} 0 1 = cc in absurd (omega arith)
+    go None h = let no : ⊥ = cc in absurd no
     go (Some y) h = cc
 outcome_reads (s ∷ ts) c i x h = go (λ d. outcome_reads ts d (suc i) x) (feed c (role s)) h
   where
     go : ((d : State) → outcome d (suc i) ts ≡ Ok x → reads d ts ≡ Some x) → (f : Option State) → told_on f i (λ d. outcome d (suc i) ts) ≡ Ok x → onto f (λ d. reads d ts) ≡ Some x
-    go ih None h = let z : ◌≡◌ {A = ℕ} 0 1 = cc in absurd (omega arith)
+    go ih None h = let no : ⊥ = cc in absurd no
     go ih (Some d) h = ih d h
 
 -- where the machine is stuck, the sorts are refused

@@ -20,11 +20,9 @@ spell_insert (joined j a b) i v =
 
 pub spell_suffix : (t : Tree) (s : Post) → spell (suffix t s) ≡ spell t ++ (post_sort s ∷ [])
 unfolding suffix
-spell_suffix (atom l) s = refl
-spell_suffix (inside b t) s = refl
 spell_suffix (tilde t) s = ap (λ x. Tilde ∷ x) (spell_suffix t s)
-spell_suffix (ended t q) s = refl
 spell_suffix (joined j a b) s = ap (λ x. spell a ++ (infix_sort j ∷ x)) (spell_suffix b s) ∙ sym (append_assoc (spell a) (infix_sort j ∷ spell b) (post_sort s ∷ []))
+spell_suffix t s = refl
 
 -- what waits, as it is written
 abbrev pub spell_wait : Wait → List Sort
@@ -70,18 +68,13 @@ well_insert q i v good fine h = go q good
 level_suffix : (t : Tree) (s : Post) → level (suffix t s) ≡ level t
 unfolding suffix
 level_suffix (atom l) s = refl
-level_suffix (inside b t) s = refl
-level_suffix (tilde t) s = refl
-level_suffix (ended t q) s = refl
-level_suffix (joined j a b) s = refl
+level_suffix t s = refl
 
 pub well_suffix : (t : Tree) (s : Post) → Well t → Well (suffix t s)
 unfolding suffix
-well_suffix (atom l) s w = (w, omega arith)
-well_suffix (inside b t) s w = (w, omega arith)
 well_suffix (tilde t) s w = (well_suffix t s w.0, omega (arith, level_suffix t s, w.1))
-well_suffix (ended t q) s w = (w, omega arith)
 well_suffix (joined j a b) s w = (w.0, well_suffix b s w.1, w.2, omega (arith, level_suffix b s, w.3))
+well_suffix t s w = (w, omega arith)
 
 -- what waits is well grouped
 abbrev pub WellWait : Wait → Type 0
@@ -120,10 +113,8 @@ spell_owner (of_binding b) = spell_before b ++ (Name ∷ (Equals ∷ []))
 spell_owner (of_check f n w) = flagging f ++ (negation n ++ (word_sort w ∷ []))
 
 abbrev pub WellOwner : Owner → Type 0
-WellOwner (of_binding single) = Unit {0}
-WellOwner (of_binding first) = Unit {0}
 WellOwner (of_binding (more t ts)) = Well t × AllWell ts
-WellOwner (of_check f n w) = Unit {0}
+WellOwner r = Unit {0}
 
 -- the part of a state's sorts that stands behind the sentence so far
 abbrev pub outside : Sentence → Owner → List Frame → List Sort

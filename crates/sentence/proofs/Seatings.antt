@@ -2,7 +2,7 @@
 use Rattle.std.proofs.Common.{◌≡◌, ℕ, suc, ◌+◌, Bool, true, false, cond, List, [], ◌∷◌, ◌++◌, length, sym, refl, ap, ◌∙◌, subst, append-nil, add-zero, add-one, arith, length-append}
 use Rattle.sentence.specs.declared.sort.Sort.{Sort}
 use Rattle.sentence.specs.declared.sort.Sort.TheVariants.{Tilde}
-use Rattle.sentence.specs.Trees.{Leaf, name, universe, no_pairs, no_events, Bracket, round, square, Post, plus, closure, question, inverse, Infix, bar, semicolon, backslash, ampersand, product, Tree, atom, inside, tilde, ended, joined, open_sort, close_sort, post_sort, infix_sort, spell}
+use Rattle.sentence.specs.Trees.{Leaf, name, Bracket, round, square, Post, plus, Infix, bar, Tree, atom, inside, tilde, ended, joined, open_sort, close_sort, post_sort, infix_sort, spell}
 use Rattle.sentence.specs.Roles.{role}
 use Rattle.sentence.specs.Seats.{leaf_role, places, Seated}
 
@@ -39,23 +39,16 @@ close_no_leaf square = refl
 
 post_no_leaf : (s : Post) → leaf_role (role (post_sort s)) ≡ false
 post_no_leaf plus = refl
-post_no_leaf closure = refl
-post_no_leaf question = refl
-post_no_leaf inverse = refl
+post_no_leaf s = refl
 
 infix_no_leaf : (i : Infix) → leaf_role (role (infix_sort i)) ≡ false
 infix_no_leaf bar = refl
-infix_no_leaf semicolon = refl
-infix_no_leaf backslash = refl
-infix_no_leaf ampersand = refl
-infix_no_leaf product = refl
+infix_no_leaf i = refl
 
 pub seated_leaf : (at : ℕ) (l : Leaf) → Seated at (atom l) (at ∷ []) (at + 1)
 unfolding places
 seated_leaf at name = record { spans = refl; seats = refl }
-seated_leaf at universe = record { spans = refl; seats = refl }
-seated_leaf at no_pairs = record { spans = refl; seats = refl }
-seated_leaf at no_events = record { spans = refl; seats = refl }
+seated_leaf at l = record { spans = refl; seats = refl }
 
 pub seated_inside : (at : ℕ) (b : Bracket) (t u : Tree) (ks ls : List ℕ) (next : ℕ) → Seated (at + 1) t ks next → u ≡ inside b t → ls ≡ ks → Seated at u ls (next + 1)
 seated_inside at b t u ks ls next h is same =

@@ -1,8 +1,8 @@
 -- What the machine takes is what its state stands for, so that what it accepts is a text. Assumes nothing.
-use Rattle.std.proofs.Common.{◌≡◌, ℕ, ◌≤◌, Bool, true, false, List, [], ◌∷◌, ◌++◌, Some, None, Option, sym, refl, ap, ◌∙◌, subst, append_assoc, append-nil, arith}
+use Rattle.std.proofs.Common.{◌≡◌, ◌≤◌, Bool, true, false, List, [], ◌∷◌, ◌++◌, Some, None, Option, sym, refl, ap, ◌∙◌, subst, append_assoc, append-nil, arith}
 use Rattle.sentence.specs.declared.sort.Sort.{Sort}
-use Rattle.sentence.specs.declared.sort.Sort.TheVariants.{Name, Title, Let, Rec, And, Acyclic, Irreflexive, Empty, Flag, As, Universe, NoPairs, NoEvents, Inverse, Open, Close, OpenSquare, CloseSquare, Bar, Semicolon, Backslash, Ampersand, Star, Tilde, Plus, Question, Equals}
-use Rattle.sentence.specs.Trees.{name, universe, no_pairs, no_events, Bracket, round, square, closure, Infix, bar, semicolon, backslash, ampersand, product, Tree, atom, inside, leaf_sort, open_sort, close_sort, post_sort, infix_sort, spell, level, Well, Word, labelled, flagged, Statement, checks, Sentence, heading, word_sort, spell_binding, spell_more, spell_statement, spell_statements, spell_text, AllWell, WellStatement, WellStatements}
+use Rattle.sentence.specs.declared.sort.Sort.TheVariants.{Name, Title, Let, Rec, And, Flag, As, Bar, Semicolon, Backslash, Ampersand, Star, Tilde, Equals}
+use Rattle.sentence.specs.Trees.{name, Bracket, round, square, closure, Infix, bar, semicolon, backslash, ampersand, product, Tree, atom, inside, leaf_sort, open_sort, close_sort, post_sort, infix_sort, spell, level, Well, Word, labelled, flagged, Statement, checks, Sentence, heading, word_sort, spell_binding, spell_more, spell_statement, spell_statements, spell_text, AllWell, WellStatement, WellStatements}
 use Rattle.sentence.specs.Texts.{Writes}
 use Rattle.sentence.specs.Machine.{Start, leaf, opens, Go, closes, joins, ends, Speech, titles, lets, recs, ands, flags, labels, equals, words, Role, starts, goes, complements, speaks, role, suffix, fill, asked, Wait, nothing, behind, Frame, single, first, more, Owner, of_binding, of_check, State, begun, ready, let_seen, name_due, equals_due, flag_seen, tilde_seen, label_due, operand, after, starred, also, blank, onto, finish, grouped, marked, on_name, on_speech, on_equals, on_word, on_rec, from_ready, from_begun, from_let, from_flag, leaving, labelling, spoken, starting, shut, closing, joining, going, from_operand, whole, negating, from_after, from_starred, feed, runs, ending, accept, reads}
 use Rattle.sentence.proofs.Inserts.{asked_most}
@@ -36,32 +36,7 @@ role_sort (speaks s) = speech_sort s
 
 pub role_known : (s : Sort) → role_sort (role s) ≡ s
 role_known Name = refl
-role_known Title = refl
-role_known Let = refl
-role_known Rec = refl
-role_known And = refl
-role_known Acyclic = refl
-role_known Irreflexive = refl
-role_known Empty = refl
-role_known Flag = refl
-role_known As = refl
-role_known Universe = refl
-role_known NoPairs = refl
-role_known NoEvents = refl
-role_known Inverse = refl
-role_known Open = refl
-role_known Close = refl
-role_known OpenSquare = refl
-role_known CloseSquare = refl
-role_known Bar = refl
-role_known Semicolon = refl
-role_known Backslash = refl
-role_known Ampersand = refl
-role_known Star = refl
-role_known Tilde = refl
-role_known Plus = refl
-role_known Question = refl
-role_known Equals = refl
+role_known s = refl
 
 -- one more statement is written behind the others
 spell_last : (ss : List Statement) (s : Statement) → spell_statements (ss ++ (s ∷ [])) ≡ spell_statements ss ++ spell_statement s
@@ -95,79 +70,42 @@ start_owner p o ts past good e =
 
 -- a statement begins
 stands_ready : (p : Sentence) (r : Role) → WellStatements p.statements → Stands (spell_text p ++ (role_sort r ∷ [])) (from_ready p r)
-stands_ready p (starts s) h = tt
-stands_ready p (goes g) h = tt
 stands_ready p complements h = (h, refl)
-stands_ready p (speaks titles) h = tt
 stands_ready p (speaks lets) h = (h, refl)
-stands_ready p (speaks recs) h = tt
-stands_ready p (speaks ands) h = tt
 stands_ready p (speaks flags) h = (h, refl)
-stands_ready p (speaks labels) h = tt
-stands_ready p (speaks equals) h = tt
 stands_ready p (speaks (words w)) h = start_owner p (of_check false false w) _ h tt refl
+stands_ready p r h = tt
 
 stands_begun : (r : Role) → Stands (role_sort r ∷ []) (from_begun r)
-stands_begun (starts s) = tt
-stands_begun (goes g) = tt
 stands_begun complements = (tt, refl)
 stands_begun (speaks titles) = (tt, refl)
 stands_begun (speaks lets) = (tt, refl)
-stands_begun (speaks recs) = tt
-stands_begun (speaks ands) = tt
 stands_begun (speaks flags) = (tt, refl)
-stands_begun (speaks labels) = tt
-stands_begun (speaks equals) = tt
 stands_begun (speaks (words w)) = start_owner (blank false) (of_check false false w) _ tt tt refl
+stands_begun r = tt
 
 -- a name comes
 stands_name : (ts : List Sort) (r : Role) (c : State) → Stands (ts ++ (Name ∷ [])) (Some c) → Stands (ts ++ (role_sort r ∷ [])) (on_name r c)
 stands_name ts (starts (leaf name)) c h = h
-stands_name ts (starts (leaf universe)) c h = tt
-stands_name ts (starts (leaf no_pairs)) c h = tt
-stands_name ts (starts (leaf no_events)) c h = tt
-stands_name ts (starts (opens b)) c h = tt
-stands_name ts (goes g) c h = tt
-stands_name ts complements c h = tt
-stands_name ts (speaks s) c h = tt
+stands_name ts r c h = tt
 
 -- a word of statements comes
 stands_speech : (ts : List Sort) (r : Role) (f : Speech → Option State) → ((s : Speech) → Stands (ts ++ (speech_sort s ∷ [])) (f s)) → Stands (ts ++ (role_sort r ∷ [])) (on_speech r f)
-stands_speech ts (starts s) f h = tt
-stands_speech ts (goes g) f h = tt
-stands_speech ts complements f h = tt
 stands_speech ts (speaks s) f h = h s
+stands_speech ts r f h = tt
 
 stands_equals : (ts : List Sort) (c : State) → Stands (ts ++ (Equals ∷ [])) (Some c) → (s : Speech) → Stands (ts ++ (speech_sort s ∷ [])) (on_equals c s)
-stands_equals ts c h titles = tt
-stands_equals ts c h lets = tt
-stands_equals ts c h recs = tt
-stands_equals ts c h ands = tt
-stands_equals ts c h flags = tt
-stands_equals ts c h labels = tt
 stands_equals ts c h equals = h
-stands_equals ts c h (words w) = tt
+stands_equals ts c h r = tt
 
 stands_word : (p : Sentence) (f n : Bool) (ts : List Sort) → WellStatements p.statements → ((w : Word) → spell_text p ++ spell_owner (of_check f n w) ≡ ts ++ (word_sort w ∷ [])) →
     (s : Speech) → Stands (ts ++ (speech_sort s ∷ [])) (on_word p f n s)
-stands_word p f n ts h e titles = tt
-stands_word p f n ts h e lets = tt
-stands_word p f n ts h e recs = tt
-stands_word p f n ts h e ands = tt
-stands_word p f n ts h e flags = tt
-stands_word p f n ts h e labels = tt
-stands_word p f n ts h e equals = tt
 stands_word p f n ts h e (words w) = start_owner p (of_check f n w) _ h tt (e w)
+stands_word p f n ts h e r = tt
 
 stands_rec : (p : Sentence) → WellStatements p.statements → (s : Speech) → Stands ((spell_text p ++ (Let ∷ [])) ++ (speech_sort s ∷ [])) (on_rec p s)
-stands_rec p h titles = tt
-stands_rec p h lets = tt
 stands_rec p h recs = (record { past = h; owner = tt; frames = tt }, sym (append_assoc (spell_text p) (Let ∷ []) (Rec ∷ [])))
-stands_rec p h ands = tt
-stands_rec p h flags = tt
-stands_rec p h labels = tt
-stands_rec p h equals = tt
-stands_rec p h (words w) = tt
+stands_rec p h r = tt
 
 stands_let : (p : Sentence) (r : Role) → WellStatements p.statements → Stands ((spell_text p ++ (Let ∷ [])) ++ (role_sort r ∷ [])) (from_let p r)
 stands_let p (starts s) h = stands_name (spell_text p ++ (Let ∷ [])) (starts s) (equals_due p single) (record { past = h; owner = tt; frames = tt }, sym (append_assoc (spell_text p) (Let ∷ []) (Name ∷ [])))
@@ -222,14 +160,12 @@ stands_labelling p (of_binding b) t around h = tt
 stands_labelling p (of_check f n w) t around h = ((around.past, h), sym (append_assoc (outside p (of_check f n w) []) (spell t) (As ∷ [])))
 
 stands_spoken : (p : Sentence) (o : Owner) (t : Tree) (s : Speech) → Around p o [] → Well t → Stands ((outside p o [] ++ spell t) ++ (speech_sort s ∷ [])) (spoken p o t s)
-stands_spoken p o t titles around h = tt
 stands_spoken p o t lets around h = stands_leaving p o t (speaks lets) around h
-stands_spoken p o t recs around h = tt
 stands_spoken p o t ands around h = stands_grouped p o t around h
 stands_spoken p o t flags around h = stands_leaving p o t (speaks flags) around h
 stands_spoken p o t labels around h = stands_labelling p o t around h
-stands_spoken p o t equals around h = tt
 stands_spoken p o t (words w) around h = stands_leaving p o t (speaks (words w)) around h
+stands_spoken p o t s around h = tt
 
 -- an expression in its place, written whole
 filled : (p : Sentence) (o : Owner) (fs : List Frame) (w : Wait) (t : Tree) (ts : List Sort) → Around p o fs → WellWait w → Well t → 7 ≤ level t → ts ≡ (outside p o fs ++ spell_wait w) ++ spell t →
@@ -352,15 +288,9 @@ written_accept : (c : State) → Sane c → Written (said c) (accept c)
 unfolding accept
 written_accept begun h = record { well = tt; spells = refl }
 written_accept (ready p) h = record { well = h; spells = refl }
-written_accept (let_seen p) h = tt
-written_accept (name_due p b) h = tt
-written_accept (equals_due p b) h = tt
-written_accept (flag_seen p) h = tt
-written_accept (tilde_seen p f) h = tt
-written_accept (label_due p f n w t) h = tt
-written_accept (operand p o fs w) h = tt
 written_accept (after p o fs t) h = written_ending p o fs t h.0 h.1
 written_accept (starred p o fs t) h = rw (← spell_suffix t closure) (written_ending p o fs (suffix t closure) h.0 (well_suffix t closure h.1))
+written_accept c h = tt
 
 -- to read is to run and to accept; to read two parts is to run the first and to read the second
 pub reads_append : (a b : List Sort) (c : State) → reads c (a ++ b) ≡ onto (runs c a) (λ d. reads d b)
@@ -386,9 +316,9 @@ pub reads_written : (ts : List Sort) (x : Sentence) → reads begun ts ≡ Some 
 reads_written ts x e = go (runs begun ts) (stands_runs ts begun tt) (sym (reads_runs ts begun) ∙ e)
   where
     accepted : (f : Option Sentence) → Written ts f → f ≡ Some x → Writes ts x
-    accepted None w e = let z : ◌≡◌ {A = ℕ} 0 1 = cc in absurd (omega arith)
+    accepted None w e = let no : ⊥ = cc in absurd no
     accepted (Some y) w e = let same : y ≡ x = cc in subst (λ v. Writes ts v) same w
 
     go : (f : Option State) → Stands ts f → onto f accept ≡ Some x → Writes ts x
-    go None h e = let z : ◌≡◌ {A = ℕ} 0 1 = cc in absurd (omega arith)
+    go None h e = let no : ⊥ = cc in absurd no
     go (Some c) h e = accepted (accept c) (subst (λ v. Written v (accept c)) h.1 (written_accept c h.0)) e

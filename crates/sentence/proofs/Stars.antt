@@ -4,7 +4,7 @@ use Rattle.sentence.specs.declared.sort.Sort.{Sort}
 use Rattle.sentence.specs.declared.sort.Sort.TheVariants.{Name, Let, Rec, And, Flag, As, Title, Star, Tilde, Equals}
 use Rattle.sentence.specs.Trees.{Leaf, name, universe, no_pairs, no_events, Bracket, round, square, leaf_sort, open_sort, close_sort, post_sort, infix_sort, word_sort, mark_front, mark_back, negation, heading, Post, plus, closure, question, inverse, Infix, bar, semicolon, backslash, ampersand, product, Tree, atom, inside, tilde, ended, joined, spell, level, bound, Well, Word, acyclic, irreflexive, empty, Mark, plain, labelled, flagged, Statement, binds, groups, checks, Sentence, spell_more, spell_statement, spell_statements, AllWell, WellStatement, WellStatements}
 use Rattle.sentence.specs.Stars.{Sign, other, sign_sort, post_sign, infix_sign, signs, signs_more, signs_statement, signs_statements, signs_text, atom_sorts, OneOf, AtomFirst, ToldBy}
-use Rattle.sentence.specs.Machine.{Role, starts, goes, closes, joins, ends, complements, speaks, role}
+use Rattle.sentence.specs.Machine.{Role, goes, joins, role}
 use Rattle.sentence.specs.Laws.{SameSorts, StarRule}
 use Rattle.sentence.proofs.Inserts.{rank_most}
 use Rattle.sentence.proofs.Expressions.{StillRole}
@@ -20,16 +20,11 @@ sorts_others (s ∷ ts) = ap (λ x. s ∷ x) (sorts_others ts)
 
 sort_post : (p : Post) → sign_sort (post_sign p) ≡ post_sort p
 sort_post plus = refl
-sort_post closure = refl
-sort_post question = refl
-sort_post inverse = refl
+sort_post p = refl
 
 sort_infix : (i : Infix) → sign_sort (infix_sign i) ≡ infix_sort i
 sort_infix bar = refl
-sort_infix semicolon = refl
-sort_infix backslash = refl
-sort_infix ampersand = refl
-sort_infix product = refl
+sort_infix i = refl
 
 -- the signs of a tree are written as the tree is
 sorts_tree : (t : Tree) → map sign_sort (signs t) ≡ spell t
@@ -104,16 +99,8 @@ open_told b e = not_still (open_sort b) (subst (λ x. StillRole (role x)) (sym e
 
 -- a closing bracket and a word of statements are no stars
 abbrev PlainRole : Role → Type 0
-PlainRole (starts s) = Unit {0}
-PlainRole (goes (closes b)) = Unit {0}
-PlainRole (goes (joins bar)) = Unit {0}
-PlainRole (goes (joins semicolon)) = Unit {0}
-PlainRole (goes (joins backslash)) = Unit {0}
-PlainRole (goes (joins ampersand)) = Unit {0}
 PlainRole (goes (joins product)) = ⊥
-PlainRole (goes (ends p)) = Unit {0}
-PlainRole complements = Unit {0}
-PlainRole (speaks s) = Unit {0}
+PlainRole r = Unit {0}
 
 plain_told : (s : Sort) → PlainRole (role s) → s ≡ Star → ⊥
 plain_told s h e = subst (λ x. PlainRole (role x)) e h
@@ -133,16 +120,11 @@ quiet_close square rest = tt
 
 quiet_post : (p : Post) (rest : List Sign) → Quiet (post_sign p ∷ rest)
 quiet_post plus rest = tt
-quiet_post closure rest = tt
-quiet_post question rest = tt
-quiet_post inverse rest = tt
+quiet_post p rest = tt
 
 quiet_infix : (i : Infix) (rest : List Sign) → Quiet (infix_sign i ∷ rest)
 quiet_infix bar rest = tt
-quiet_infix semicolon rest = tt
-quiet_infix backslash rest = tt
-quiet_infix ampersand rest = tt
-quiet_infix product rest = tt
+quiet_infix i rest = tt
 
 -- a sign behind an operand is told by what begins no atom
 post_told : (p : Post) (rest : List Sign) → Quiet rest → ToldBy (post_sign p) rest
@@ -225,21 +207,16 @@ told_statement (checks m n w t) rest good q h =
 -- a statement begins no atom
 quiet_word : (w : Word) (rest : List Sign) → Quiet (other (word_sort w) ∷ rest)
 quiet_word acyclic rest = tt
-quiet_word irreflexive rest = tt
-quiet_word empty rest = tt
+quiet_word w rest = tt
 
 quiet_check : (m : Mark) (n : Bool) (w : Word) (rest more : List Sign) → Quiet ((map other (mark_front m) ++ (map other (negation n) ++ (other (word_sort w) ∷ rest))) ++ more)
-quiet_check plain true w rest more = tt
 quiet_check plain false w rest more = quiet_word w (rest ++ more)
-quiet_check labelled true w rest more = tt
 quiet_check labelled false w rest more = quiet_word w (rest ++ more)
-quiet_check flagged n w rest more = tt
+quiet_check m n w rest more = tt
 
 quiet_statements : (ss : List Statement) → Quiet (signs_statements ss)
-quiet_statements [] = tt
-quiet_statements (binds t ∷ ss) = tt
-quiet_statements (groups t ts ∷ ss) = tt
 quiet_statements (checks m n w t ∷ ss) = quiet_check m n w (signs t ++ map other (mark_back m)) (signs_statements ss)
+quiet_statements ss = tt
 
 told_statements : (ss : List Statement) → WellStatements ss → AllTold (signs_statements ss)
 told_statements [] w = tt

@@ -2,7 +2,7 @@
 use Rattle.std.specs.Prelude.{ℕ, suc, Bool, true, false, cond, List, [], ◌∷◌, ◌++◌, Some, None, Ok, Err, Option, Result, nat_le}
 use Rattle.sentence.specs.declared.sort.Sort.{Sort}
 pub use Rattle.sentence.specs.Roles.{Start, leaf, opens, Go, closes, joins, ends, Speech, titles, lets, recs, ands, flags, labels, equals, words, Role, starts, goes, complements, speaks, role}
-use Rattle.sentence.specs.Trees.{name, universe, no_pairs, no_events, Bracket, round, square, Post, closure, Infix, bar, semicolon, backslash, ampersand, product, Tree, atom, inside, tilde, ended, joined, rank, bound, Word, Mark, plain, labelled, flagged, Statement, binds, groups, checks, Sentence}
+use Rattle.sentence.specs.Trees.{name, Bracket, round, square, Post, closure, Infix, bar, semicolon, backslash, ampersand, product, Tree, atom, inside, tilde, ended, joined, rank, bound, Word, Mark, plain, labelled, flagged, Statement, binds, groups, checks, Sentence}
 
 -- the tree for an expression, an infix sign, and a tighter operand
 unfoldable pub insert : Tree → Infix → Tree → Tree
@@ -97,64 +97,34 @@ grouped (of_check f n w) t = None
 -- a name, and nothing else
 abbrev pub on_name : Role → State → Option State
 on_name (starts (leaf name)) c = Some c
-on_name (starts (leaf universe)) c = None
-on_name (starts (leaf no_pairs)) c = None
-on_name (starts (leaf no_events)) c = None
-on_name (starts (opens b)) c = None
-on_name (goes g) c = None
-on_name complements c = None
-on_name (speaks s) c = None
+on_name r c = None
 
 -- a word of statements, and nothing else
 abbrev pub on_speech : Role → (Speech → Option State) → Option State
-on_speech (starts s) f = None
-on_speech (goes g) f = None
-on_speech complements f = None
 on_speech (speaks s) f = f s
+on_speech r f = None
 
 -- the sign `=`
 abbrev pub on_equals : State → Speech → Option State
-on_equals c titles = None
-on_equals c lets = None
-on_equals c recs = None
-on_equals c ands = None
-on_equals c flags = None
-on_equals c labels = None
 on_equals c equals = Some c
-on_equals c (words w) = None
+on_equals c r = None
 
 -- the word of a check
 abbrev pub on_word : Sentence → Bool → Bool → Speech → Option State
-on_word p f n titles = None
-on_word p f n lets = None
-on_word p f n recs = None
-on_word p f n ands = None
-on_word p f n flags = None
-on_word p f n labels = None
-on_word p f n equals = None
 on_word p f n (words w) = Some (operand p (of_check f n w) [] nothing)
+on_word p f n r = None
 
 -- the word `rec`
 abbrev pub on_rec : Sentence → Speech → Option State
-on_rec p titles = None
-on_rec p lets = None
 on_rec p recs = Some (name_due p first)
-on_rec p ands = None
-on_rec p flags = None
-on_rec p labels = None
-on_rec p equals = None
-on_rec p (words w) = None
+on_rec p r = None
 
 -- the beginning of a statement
 abbrev pub opening : Sentence → Speech → Option State
-opening p titles = None
 opening p lets = Some (let_seen p)
-opening p recs = None
-opening p ands = None
 opening p flags = Some (flag_seen p)
-opening p labels = None
-opening p equals = None
 opening p (words w) = Some (operand p (of_check false false w) [] nothing)
+opening p r = None
 
 abbrev pub from_ready : Sentence → Role → Option State
 from_ready p (starts s) = None
@@ -164,17 +134,12 @@ from_ready p (speaks s) = opening p s
 
 -- the beginning of a text
 abbrev pub from_begun : Role → Option State
-from_begun (starts s) = None
-from_begun (goes g) = None
 from_begun complements = Some (tilde_seen (blank false) false)
 from_begun (speaks titles) = Some (ready (blank true))
 from_begun (speaks lets) = opening (blank false) lets
-from_begun (speaks recs) = None
-from_begun (speaks ands) = None
 from_begun (speaks flags) = opening (blank false) flags
-from_begun (speaks labels) = None
-from_begun (speaks equals) = None
 from_begun (speaks (words w)) = opening (blank false) (words w)
+from_begun r = None
 
 -- behind `let`
 abbrev pub from_let : Sentence → Role → Option State
@@ -206,14 +171,12 @@ marked false = labelled
 
 -- a word of statements behind a whole expression
 abbrev pub spoken : Sentence → Owner → Tree → Speech → Option State
-spoken p o t titles = None
 spoken p o t lets = leaving p o t (speaks lets)
-spoken p o t recs = None
 spoken p o t ands = onto (grouped o t) (λ b. Some (name_due p b))
 spoken p o t flags = leaving p o t (speaks flags)
 spoken p o t labels = labelling p o t
-spoken p o t equals = None
 spoken p o t (words w) = leaving p o t (speaks (words w))
+spoken p o t r = None
 
 -- the sort begins an atom
 abbrev pub starting : Sentence → Owner → List Frame → Wait → Start → Option State
@@ -298,15 +261,9 @@ ending p o (f ∷ fs) t = None
 unfoldable pub accept : State → Option Sentence
 accept begun = Some (blank false)
 accept (ready p) = Some p
-accept (let_seen p) = None
-accept (name_due p b) = None
-accept (equals_due p b) = None
-accept (flag_seen p) = None
-accept (tilde_seen p f) = None
-accept (label_due p f n w t) = None
-accept (operand p o fs w) = None
 accept (after p o fs t) = ending p o fs t
 accept (starred p o fs t) = ending p o fs (suffix t closure)
+accept r = None
 
 -- the sentence of these sorts, from a state on
 unfoldable pub reads : State → List Sort → Option Sentence

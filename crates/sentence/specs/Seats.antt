@@ -6,16 +6,13 @@ use Rattle.sentence.specs.declared.tree.Expr.{Expr}
 use Rattle.sentence.specs.declared.tree.Expr.TheVariants.{Atom, Inside', Tilde', Ended', Joined'}
 use Rattle.sentence.specs.declared.placed.Placed.{Placed}
 use Rattle.sentence.specs.Trees.{Tree, spell}
-use Rattle.sentence.specs.Roles.{leaf, opens, Role, starts, goes, complements, speaks, role}
+use Rattle.sentence.specs.Roles.{leaf, Role, starts, role}
 use Rattle.sentence.specs.Exprs.{tree_of}
 
 -- a name, `_`, `0` or `{}`
 abbrev pub leaf_role : Role → Bool
 leaf_role (starts (leaf l)) = true
-leaf_role (starts (opens b)) = false
-leaf_role (goes g) = false
-leaf_role complements = false
-leaf_role (speaks s) = false
+leaf_role r = false
 
 -- their places among sorts that begin at a place
 unfoldable pub places : ℕ → List Sort → List ℕ

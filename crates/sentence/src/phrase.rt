@@ -26,14 +26,14 @@ fn labelled(flag: bool, at: usize) -> Mark
 
 impl<'a> Parser<'a> {
     /// The place behind a sort of this role, which has to stand at a place.
-    fn behind(self, at: usize, role: Role) -> Result<usize, SentenceFault>
-        ensures stands { IfOk result (λ k. StandsAt self.entry.sorts.now at role × (k ≡ at + 1)) }
-        ensures lacks { IfErr result (λ f. (¬ StandsAt self.entry.sorts.now at role) × (f ≡ Place at)) }
+    fn behind(self, place: usize, role: Role) -> Result<usize, SentenceFault>
+        ensures stands { IfOk result (λ k. StandsAt self.entry.sorts.now place role × (k ≡ place + 1)) }
+        ensures lacks { IfErr result (λ f. (¬ StandsAt self.entry.sorts.now place role) × (f ≡ Place place)) }
     {
-        if self.stands(at, role) {
-            Ok(at + 1)
+        if self.stands(place, role) {
+            Ok(place + 1)
         } else {
-            Err(SentenceFault::Place(at))
+            Err(SentenceFault::Place(place))
         }
     }
 

@@ -10,7 +10,7 @@ pub struct Binding {
 }
 
 /// A check has neither flag nor label, a label at a place, or a flag and a label at a place.
-#[derive(Clone, Copy)]
+#[derive(Clone, Copy, PartialEq, Eq, Debug)]
 pub enum Mark {
     Plain,
     Labelled(usize),

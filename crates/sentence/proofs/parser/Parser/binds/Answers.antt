@@ -1,16 +1,10 @@
-use Rattle.std.proofs.Common.{◌<◌, length, refl, rules}
+use Rattle.std.proofs.Common.{refl}
 use Rattle.sentence.specs.Machine.{recs, speaks, let_seen, name_due, first, feed}
 use Rattle.sentence.specs.Exprs.{tree_of}
 use Rattle.sentence.specs.Statements.{Stated}
 use Rattle.sentence.proofs.Looking.{not_so, handed}
-use Rattle.sentence.proofs.Looked.{here}
 use Rattle.sentence.proofs.Phrases.{goes_let, stuck_let, step_stated}
 use Rattle.sentence.proofs.parser.Parser.binds.Goals as goal
-
-pub overflow_add-at : goal.overflow_add-at
-overflow_add-at c =
-    let h : c.args.at < length c.args.self.sorts.now = here c.args.self.sorts.now c.args.at (speaks recs) (c.stands.ensures.0 c.if-stands.true) in
-    search rules
 
 pub returns-then-stands : goal.returns-then-stands
 unfolding feed

@@ -1,15 +1,7 @@
-use Rattle.std.proofs.Common.{◌<◌, length, rules}
-use Rattle.sentence.specs.Machine.{labels, speaks}
 use Rattle.sentence.specs.Statements.{Marks, mark_of}
 use Rattle.sentence.proofs.Looking.{not_so, handed}
-use Rattle.sentence.proofs.Looked.{here}
 use Rattle.sentence.proofs.Phrases.{mark_plain, mark_flag, mark_label, mark_nameless}
 use Rattle.sentence.proofs.parser.Parser.mark.Goals as goal
-
-pub overflow_add-at-then-stands : goal.overflow_add-at-then-stands
-overflow_add-at-then-stands c =
-    let h : c.args.at < length c.args.self.sorts.now = here c.args.self.sorts.now c.args.at (speaks labels) (c.stands.ensures.0 c.if-stands.true) in
-    search rules
 
 pub returns-in_err-next : goal.returns-in_err-next
 returns-in_err-next c =

@@ -1,16 +1,11 @@
-use Rattle.std.proofs.Common.{◌<◌, true, false, [], length, drop, sym, refl, ◌∙◌, rules}
+use Rattle.std.proofs.Common.{true, false, [], drop, sym, refl, ◌∙◌}
 use Rattle.sentence.specs.Looks.{first_role}
 use Rattle.sentence.specs.Machine.{words, complements, speaks, flag_seen, tilde_seen, operand, of_check, nothing, feed}
 use Rattle.sentence.proofs.Looking.{not_so}
-use Rattle.sentence.proofs.Looked.{here, word_so}
+use Rattle.sentence.proofs.Looked.{word_so}
 use Rattle.sentence.proofs.Heard.{warning_off}
 use Rattle.sentence.proofs.Phrases.{step_stated}
 use Rattle.sentence.proofs.parser.Parser.warning.Goals as goal
-
-pub overflow_add-at : goal.overflow_add-at
-overflow_add-at c =
-    let h : c.args.at < length c.args.self.sorts.now = here c.args.self.sorts.now c.args.at complements (c.stands.ensures.0 c.if-stands.true) in
-    search rules
 
 pub returns-then-stands : goal.returns-then-stands
 unfolding feed
@@ -19,11 +14,6 @@ returns-then-stands c =
 
 pub returns-in_default : goal.returns-in_default
 returns-in_default c = λ p. warning_off c.args.self.sorts.now c.args.at p (not_so _ c.stands.ensures c.if-stands.false) (sym c.word_at.ensures ∙ c.in_default.is)
-
-pub overflow_add-at-2 : goal.overflow_add-at-2
-overflow_add-at-2 c =
-    let h : c.args.at < length c.args.self.sorts.now = here c.args.self.sorts.now c.args.at (speaks (words c.in-Some.word)) (word_so (first_role (drop c.args.at c.args.self.sorts.now)) c.in-Some.word (sym c.word_at.ensures ∙ c.in-Some.is)) in
-    search rules
 
 pub returns : goal.returns
 unfolding feed
