@@ -1,5 +1,5 @@
 -- The refusal that the code finds is the first listed one that applies, and where it finds none the action is a step. Assumes nothing.
-use Rattle.std.proofs.Common.{◌≡◌, ℕ, ◌<◌, ◌≤◌, Bool, true, false, cond, not, ◌&&◌, ◌||◌, eqb, ltb, ◌⊎◌, is_some, Some, None, Ok, Decides, Option, sym, refl, ap, ◌∙◌, subst, inl, inr, ⊎_elim, arith}
+use Rattle.std.proofs.Common.{◌≡◌, ℕ, ◌<◌, ◌≤◌, Bool, true, false, cond, not, ◌&&◌, ◌||◌, eqb, ltb, ◌⊎◌, is_some, Some, None, Ok, Err, Decides, Option, sym, refl, ap, ◌∙◌, subst, inl, inr, ⊎_elim, arith}
 use Rattle.std.proofs.lemmas.Bool.Decides.{Decides-and, Decides-or, Decides-not, Decides-like, Decides-at, Decides-eqb, Decides-ltb, not_from_Decides}
 use Rattle.std.proofs.lemmas.Bool.{cases_lt, cases_eq, lt-ltb, le-ltb, false≢true, not-false, or_parts}
 use Rattle.run.specs.declared.event.Event.{Event}
@@ -8,7 +8,6 @@ use Rattle.bench.specs.declared.action.Action.{Action}
 use Rattle.bench.specs.declared.action.Action.TheVariants.{Enter, Tie, Settle}
 use Rattle.bench.specs.declared.fault.BenchFault.{BenchFault}
 use Rattle.bench.specs.declared.fault.BenchFault.TheVariants.{BadNumber, OutOfRange, Clash, NoPair, Mismatch, NoWrite, OtherSettled}
-use Rattle.run.specs.declared.link.Link.TheVariants as link
 use Rattle.run.specs.declared.rule.Rule.TheVariants.{Steps, Initials}
 use Rattle.run.specs.Events.{Read, Write, SamePlace}
 use Rattle.bench.specs.Steps.{fresh, put}
@@ -16,27 +15,10 @@ use Rattle.bench.specs.Numbers.{bench_refusal}
 use Rattle.bench.specs.Refusals.{Applies, Answers, Holds, Agree}
 use Rattle.run.specs.Rules.{Keeps}
 use Rattle.run.specs.Runs.{Run, Stands, shown}
-use Rattle.run.specs.Tests.{holds, is_read, is_write, same_place, in_range, broken, some_linked}
+use Rattle.run.specs.Tests.{holds, is_read, is_write, same_place, in_range, broken, rivalled}
 use Rattle.bench.specs.Tests.{clashes, bad_number, agree, refusal, answer}
-use Rattle.run.proofs.Rules.{read_decided, write_decided, place_decided, range_decided, holds_decided, flag_decided, other_decided, some_decided, only_settled_decided, decided}
+use Rattle.run.proofs.Rules.{read_decided, write_decided, place_decided, range_decided, flag_decided, other_decided, rival_decided, only_settled_decided, shown_stands, stands_shown, shown_decided, decided}
 use Rattle.bench.proofs.Stays.{came, stays_there, one_event, Open}
-
--- what a source shows at a number stands there
-shown_stands : (run : Run) (n : ℕ) (e : Event) → shown run n ≡ Some e → Stands run n e
-shown_stands run n e h = go (cases_lt n 32)
-  where
-    go : (n < 32) ⊎ (32 ≤ n) → Stands run n e
-    go (inl l) = (l, sym (ap (λ b. cond b (run n) None) (lt-ltb n 32 l)) ∙ h)
-    go (inr l) = let clash : None ≡ Some e = sym (ap (λ b. cond b (run n) None) (le-ltb n 32 l)) ∙ h in let z : ◌≡◌ {A = ℕ} 0 1 = cc in absurd (omega arith)
-
-stands_shown : (run : Run) (n : ℕ) (e : Event) → Stands run n e → shown run n ≡ Some e
-stands_shown run n e s = ap (λ b. cond b (run n) None) (lt-ltb n 32 s.0) ∙ s.1
-
--- a test of what is shown at a number decides that such an event stands there
-shown_decided : (run : Run) (n : ℕ) (p : Event → Bool) (P : Event → Type 0) → ((e : Event) → Decides (p e) (P e)) → Decides (holds (shown run n) p) (Holds run n P)
-shown_decided run n p P each =
-    Decides-like _ (λ h. (h.0, shown_stands run n h.0 h.1, h.2)) (λ h. (h.0, stands_shown run n h.0 h.1, h.2))
-    (holds_decided (shown run n) p P each)
 
 -- Enter
 
@@ -121,15 +103,14 @@ mismatch_decided run r w e f s t =
 write_there : (run : Run) (n : ℕ) → Decides (not (holds (shown run n) is_write)) (Applies NoWrite run (Settle n))
 write_there run n = Decides-not _ (shown_decided run n is_write Write write_decided)
 
-rival_decided : (run : Run) (n : ℕ) → Decides (holds (shown run n) (some_linked link.OtherSettled run n)) (Applies OtherSettled run (Settle n))
-rival_decided run n =
-    shown_decided run n (some_linked link.OtherSettled run n) _
+rivals_decided : (run : Run) (n : ℕ) → Decides (holds (shown run n) (rivalled run n)) (Applies OtherSettled run (Settle n))
+rivals_decided run n =
+    shown_decided run n (rivalled run n) _
     (λ e.
     Decides-like _
-    (λ h. (h.0, h.3.0, (h.1, h.2, (h.3.1.0, h.3.1.1.0, h.3.1.1.1))))
-    (λ h. (h.0, h.2.0, h.2.1, (h.1, (h.2.2.0, (h.2.2.1, h.2.2.2)))))
-    (some_decided link.OtherSettled run n e (λ m f. (m ≡ n → ⊥) × (Write f × ((f.settled ≡ true) × SamePlace f e)))
-    (λ m f. other_decided m n _ _ (write_decided f) (Decides-and _ _ (flag_decided f.settled) (place_decided f e)))))
+    (λ h. (h.0, h.2, (h.1, h.3, (h.4.0, h.4.1.0, h.4.1.1))))
+    (λ h. (h.0, h.2.0, h.1, h.2.1, (h.2.2.0, (h.2.2.1, h.2.2.2))))
+    (other_decided run n _ (λ f. Write f × ((f.settled ≡ true) × SamePlace f e)) (λ f. rival_decided f e)))
 
 -- Faults in their order
 
@@ -211,7 +192,16 @@ answered run (Tie r w) =
     tie_answers run r w (holds (shown run r) is_read && holds (shown run w) is_write) (agree (shown run r) (shown run w)) (pair_decided run r w)
     (λ h. let p = pair_stands run r w h in mismatch_decided run r w p.0.0 p.1.0 p.0.1 p.1.1)
 answered run (Settle n) =
-    settle_answers run n (holds (shown run n) is_write) (holds (shown run n) (some_linked link.OtherSettled run n)) (write_there run n) (rival_decided run n)
+    settle_answers run n (holds (shown run n) is_write) (holds (shown run n) (rivalled run n)) (write_there run n) (rivals_decided run n)
+
+-- an answer shows which refusal it was made of
+pub answer_none : (o : Option BenchFault) → answer o ≡ Ok tt → o ≡ None
+answer_none None h = refl
+answer_none (Some f) h = absurd (cc h)
+
+pub answer_some : (o : Option BenchFault) (f : BenchFault) → answer o ≡ Err f → o ≡ Some f
+answer_some None f h = absurd (cc h)
+answer_some (Some g) f h = cc h
 
 -- where the code finds no refusal, the tests came out so
 enter_open : (a b c : Bool) → cond a (Some BadNumber) (cond b (Some OutOfRange) (cond c (Some Clash) None)) ≡ None → (a ≡ false) × (b ≡ false) × (c ≡ false)
@@ -262,13 +252,13 @@ opened run (Tie r w) h =
       same = a.1;
     }
 opened run (Settle n) h =
-    let t = settle_open (holds (shown run n) is_write) (holds (shown run n) (some_linked link.OtherSettled run n)) h in
+    let t = settle_open (holds (shown run n) is_write) (holds (shown run n) (rivalled run n)) h in
     let w = (shown_decided run n is_write Write write_decided).0 t.0 in
     record {
       write = w.0;
       stands = w.1;
       writes = w.2;
-      only = (only_settled_decided run n w.0).0 (ap not (sym (ap (λ o. holds o (some_linked link.OtherSettled run n)) (stands_shown run n w.0 w.1)) ∙ t.1));
+      only = (only_settled_decided run n w.0).0 (ap not (sym (ap (λ o. holds o (rivalled run n)) (stands_shown run n w.0 w.1)) ∙ t.1));
     }
 
 -- to a step no refusal applies

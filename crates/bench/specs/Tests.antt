@@ -1,11 +1,10 @@
 -- What a bench keeps and refuses, as tests that compute, for the code. proofs/ ties each to its rule. Assumes nothing.
 use Rattle.std.specs.Prelude.{◌≡◌, ℕ, ◌<◌, Bool, false, cond, not, ◌&&◌, ◌||◌, is_some, Some, None, Ok, Err, Option, Result, ◌==◌, nat_lt}
 use Rattle.run.specs.declared.event.Event.{Event}
-use Rattle.run.specs.declared.link.Link.TheVariants.{OtherSettled}
 use Rattle.run.specs.declared.rule.Rule.{Rule}
 use Rattle.run.specs.declared.rule.Rule.TheVariants.{Steps, Initials}
 use Rattle.run.specs.Runs.{Run, shown}
-use Rattle.run.specs.Tests.{holds, is_read, is_write, same_place, in_range, some_linked, misplaced, broken, faulty}
+use Rattle.run.specs.Tests.{holds, is_read, is_write, same_place, in_range, rivalled, misplaced, broken, faulty}
 use Rattle.bench.specs.declared.action.Action.{Action}
 use Rattle.bench.specs.declared.action.Action.TheVariants.{Enter, Tie, Settle}
 use Rattle.bench.specs.declared.fault.BenchFault.{BenchFault}
@@ -41,7 +40,7 @@ refusal run (Enter x) =
 refusal run (Tie r w) =
     cond (holds (shown run r) is_read && holds (shown run w) is_write) (cond (agree (shown run r) (shown run w)) None (Some Mismatch)) (Some NoPair)
 refusal run (Settle n) =
-    cond (holds (shown run n) is_write) (cond (holds (shown run n) (some_linked OtherSettled run n)) (Some fault.OtherSettled) None) (Some NoWrite)
+    cond (holds (shown run n) is_write) (cond (holds (shown run n) (rivalled run n)) (Some fault.OtherSettled) None) (Some NoWrite)
 
 -- a refusal as the answer of the call
 abbrev pub answer : Option BenchFault → Result (Unit {0}) BenchFault

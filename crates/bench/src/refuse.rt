@@ -1,115 +1,86 @@
 //! Which refusal of the bench applies to an action, over a table of events.
-ghost use Rattle.std.specs.Prelude.{◌≡◌, Option};
-ghost use Rattle.run.specs.Runs.{shown};
-ghost use Rattle.run.specs.Tests.{table_run, holds, is_read, is_write, some_linked};
-ghost use Rattle.bench.specs.Tests.{agree, refusal, clashes, bad_number};
-ghost use Rattle.run.specs.declared.link.Link.TheVariants.{OtherSettled};
+ghost use Rattle.std.specs.Prelude.{◌≡◌};
+ghost use Rattle.run.specs.Tests.{table_run};
+ghost use Rattle.bench.specs.Tests.{agree, refusal, answer, clashes, bad_number};
 ghost use Rattle.bench.specs.declared.action.Action.TheVariants.{Enter, Tie, Settle};
 
 use super::action::{Action, Entry};
 use super::fault::BenchFault;
-use run::{Event, Link, Rule, RunSource, Snapshot};
+use run::{Event, Rule, RunSource, Snapshot};
 
-fn is_read(event: Option<Event>) -> bool
-    ensures { result ≡ holds event is_read }
-{
-    match event {
-        None => false,
-        Some(found) => found.is_read(),
-    }
-}
-
-fn is_write(event: Option<Event>) -> bool
-    ensures { result ≡ holds event is_write }
-{
-    match event {
-        None => false,
-        Some(found) => found.is_write(),
-    }
-}
-
+/// Whether both agree in location and value.
 fn agree(one: Option<Event>, other: Option<Event>) -> bool
     ensures { result ≡ agree one other }
 {
-    match (one, other) {
-        (Some(e), Some(f)) => e.same_place(&f) & (e.value == f.value),
-        _ => false,
-    }
+    one.is_some_and(|e| other.is_some_and(|f| e.same_place(&f) && e.value == f.value))
 }
 
+/// Whether the number of an entry is above 31 or standing.
 fn bad_number(events: &Snapshot, number: u8) -> bool
     ensures { result ≡ bad_number (table_run events.now.events) number }
 {
-    (31 < number) | events.event(number).is_some()
+    number > 31 || events.event(number).is_some()
 }
 
+/// Whether an entry breaks the rule of steps or that of initial writes.
 fn clashes(events: &Snapshot, number: u8, event: &Event) -> bool
     ensures { result ≡ clashes (table_run events.now.events) number event.now }
 {
-    events.broken(Rule::Steps, number, event) | events.broken(Rule::Initials, number, event)
+    events.broken(Rule::Steps, number, event) || events.broken(Rule::Initials, number, event)
 }
 
-/// Why an entry is refused, if it is.
-fn enter_refusal(events: &Snapshot, entry: Entry) -> Option<BenchFault>
-    ensures { result ≡ refusal (table_run events.now.events) (Enter entry) }
+/// Refuses an entry by the first fault that it has.
+fn judge_entry(events: &Snapshot, entry: Entry) -> Result<(), BenchFault>
+    ensures { result ≡ answer (refusal (table_run events.now.events) (Enter entry)) }
 {
     let event = entry.event();
     if bad_number(events, entry.number) {
-        Some(BenchFault::BadNumber)
+        Err(BenchFault::BadNumber)
     } else if !event.in_range() {
-        Some(BenchFault::OutOfRange)
+        Err(BenchFault::OutOfRange)
     } else if clashes(events, entry.number, &event) {
-        Some(BenchFault::Clash)
+        Err(BenchFault::Clash)
     } else {
-        None
+        Ok(())
     }
 }
 
-/// Why a tie is refused, if it is.
-fn tie_refusal(events: &Snapshot, read: u8, write: u8) -> Option<BenchFault>
-    ensures { result ≡ refusal (table_run events.now.events) (Tie read write) }
+/// Refuses a tie by the first fault that it has.
+fn judge_tie(events: &Snapshot, read: u8, write: u8) -> Result<(), BenchFault>
+    ensures { result ≡ answer (refusal (table_run events.now.events) (Tie read write)) }
 {
     let reader = events.event(read);
     let writer = events.event(write);
-    if !(is_read(reader) & is_write(writer)) {
-        Some(BenchFault::NoPair)
+    if !(reader.is_some_and(|e| e.is_read()) && writer.is_some_and(|e| e.is_write())) {
+        Err(BenchFault::NoPair)
     } else if !agree(reader, writer) {
-        Some(BenchFault::Mismatch)
+        Err(BenchFault::Mismatch)
     } else {
-        None
+        Ok(())
     }
 }
 
-/// Whether another write of the location is settled.
-fn rivalled(events: &Snapshot, number: u8) -> bool
-    ensures { result ≡ holds (shown (table_run events.now.events) number) (some_linked OtherSettled (table_run events.now.events) number) }
+/// Refuses a settling by the first fault that it has.
+fn judge_settling(events: &Snapshot, number: u8) -> Result<(), BenchFault>
+    ensures { result ≡ answer (refusal (table_run events.now.events) (Settle number)) }
 {
-    match events.event(number) {
-        None => false,
-        Some(event) => events.some_linked(Link::OtherSettled, number, &event),
-    }
-}
-
-/// Why a settling is refused, if it is.
-fn settle_refusal(events: &Snapshot, number: u8) -> Option<BenchFault>
-    ensures { result ≡ refusal (table_run events.now.events) (Settle number) }
-{
-    if !is_write(events.event(number)) {
-        Some(BenchFault::NoWrite)
-    } else if rivalled(events, number) {
-        Some(BenchFault::OtherSettled)
+    let standing = events.event(number);
+    if !standing.is_some_and(|event| event.is_write()) {
+        Err(BenchFault::NoWrite)
+    } else if standing.is_some_and(|event| events.rivalled(number, &event)) {
+        Err(BenchFault::OtherSettled)
     } else {
-        None
+        Ok(())
     }
 }
 
-/// Why an action is refused, if it is.
-pub(crate) fn refusal(events: &Snapshot, action: Action) -> Option<BenchFault>
-    ensures { result ≡ refusal (table_run events.now.events) action }
+/// Refuses an action by the first fault that it has.
+pub(crate) fn judge(events: &Snapshot, action: Action) -> Result<(), BenchFault>
+    ensures { result ≡ answer (refusal (table_run events.now.events) action) }
 {
     match action {
-        Action::Enter(entry) => enter_refusal(events, entry),
-        Action::Tie { read, write } => tie_refusal(events, read, write),
-        Action::Settle { number } => settle_refusal(events, number),
+        Action::Enter(entry) => judge_entry(events, entry),
+        Action::Tie { read, write } => judge_tie(events, read, write),
+        Action::Settle { number } => judge_settling(events, number),
     }
 }

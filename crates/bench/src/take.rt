@@ -1,37 +1,13 @@
 //! Steps taken on a table of events.
 ghost use Rattle.std.specs.Prelude.{◌≡◌, ◌<◌, None};
-ghost use Rattle.bench.specs.Steps.{put, sourced, final, taken};
+ghost use Rattle.bench.specs.Steps.{put, taken};
 ghost use Rattle.run.specs.Tests.{table_run};
 ghost use Rattle.bench.specs.Tests.{refusal};
-ghost use Rattle.std.specs.Option.{option_map};
 
 use super::action::Action;
 use run::{Event, Snapshot};
 
-fn sourced(event: Option<Event>, write: u8) -> Option<Event>
-    ensures { result ≡ option_map (sourced write) event }
-{
-    match event {
-        None => None,
-        Some(read) => Some(Event {
-            source: Some(write),
-            ..read
-        }),
-    }
-}
-
-fn settled(event: Option<Event>) -> Option<Event>
-    ensures { result ≡ option_map final event }
-{
-    match event {
-        None => None,
-        Some(write) => Some(Event {
-            settled: true,
-            ..write
-        }),
-    }
-}
-
+/// Puts another answer at a number.
 fn put(events: &mut Snapshot, number: u8, event: Option<Event>)
     requires { number < 32 }
     ensures { table_run events.new.events ≡ put (table_run events.old.events) number event }
@@ -47,11 +23,17 @@ pub(crate) fn take(events: &mut Snapshot, action: Action)
     match action {
         Action::Enter(entry) => put(events, entry.number, Some(entry.event())),
         Action::Tie { read, write } => {
-            let tied = sourced(events.events[read as usize], write);
+            let tied = events.events[read as usize].map(|event| Event {
+                source: Some(write),
+                ..event
+            });
             put(events, read, tied);
         }
         Action::Settle { number } => {
-            let marked = settled(events.events[number as usize]);
+            let marked = events.events[number as usize].map(|event| Event {
+                settled: true,
+                ..event
+            });
             put(events, number, marked);
         }
     }

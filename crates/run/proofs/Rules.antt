@@ -1,16 +1,14 @@
 -- Each test of specs/Tests decides what its rule asks. Assumes nothing.
-use Rattle.std.proofs.Common.{◌≡◌, ℕ, ◌≤◌, Bool, true, false, not, ◌&&◌, ◌||◌, eqb, leb, is_some, Some, None, Decides, Option, refl, subst, inl, inr, ⊎_elim, arith}
-use Rattle.std.proofs.lemmas.Bool.{leb-true, le-leb, cases_eq, false≢true}
+use Rattle.std.proofs.Common.{◌≡◌, ℕ, ◌≤◌, Bool, true, false, cond, ◌↔◌, not, ◌&&◌, ◌||◌, eqb, leb, is_some, Some, None, Decides, Option, sym, refl, ap, ◌∙◌, subst, inl, inr, ⊎_elim, arith}
+use Rattle.std.proofs.lemmas.Bool.{leb-true, le-leb, cases_eq, cases_lt, eq-eqb, ne_eqb, cond_below, cond_above, false≢true}
 use Rattle.std.proofs.lemmas.Bool.Decides.{Decides-eqb, Decides-like, Decides-not, Decides-and, Decides-or, Decides-below_or}
 use Rattle.run.specs.declared.event.Event.{Event}
-use Rattle.run.specs.declared.link.Link.{Link}
-use Rattle.run.specs.declared.link.Link.TheVariants.{SameStep, Twin, Source, OtherSettled, OtherWrite, Origin}
 use Rattle.run.specs.declared.rule.Rule.{Rule}
 use Rattle.run.specs.declared.rule.Rule.TheVariants.{Ranges, Steps, Initials, Sources, Settlings, Initialised, Tied}
 use Rattle.run.specs.Events.{Read, Initial, Write, Memory, Placeless, Threaded, SamePlace, InRange}
-use Rattle.run.specs.Runs.{Run, Stands}
+use Rattle.run.specs.Runs.{Run, Stands, shown, without}
 use Rattle.run.specs.Rules.{Supplies, OnlySettled, OnlyWrite, Keeps}
-use Rattle.run.specs.Tests.{any_below, holds, is_read, is_initial, is_write, is_memory, is_threaded, same_place, well_threaded, well_placed, in_range, sourced_at, linked, some_linked, misplaced, broken}
+use Rattle.run.specs.Tests.{any_below, holds, is_read, is_initial, is_write, is_memory, is_threaded, same_place, well_threaded, well_placed, in_range, same_step, sourced_at, supplies, some, some_other, rivalled, ill_sourced, misplaced, broken}
 
 -- a flag decides that it is up
 pub flag_decided : (b : Bool) → Decides b (b ≡ true)
@@ -95,54 +93,77 @@ pub holds_decided : (o : Option Event) (p : Event → Bool) (P : Event → Type 
 holds_decided None p P d = (λ e. absurd (false≢true e), λ h. cc h.1)
 holds_decided (Some e) p P d = (λ h. (e, refl, (d e).0 h), λ h. let same : h.0 ≡ e = cc h.1 in (d e).1 (subst P same h.2))
 
--- a link's test over the run decides that some standing event is linked so
-pub some_decided : (link : Link) (run : Run) (n : ℕ) (e : Event) (P : ℕ → Event → Type 0) → ((m : ℕ) (f : Event) → Decides (linked link n e m f) (P m f)) → Decides (some_linked link run n e) ((m : ℕ) × (f : Event) × Stands run m f × P m f)
+-- a test over the run decides that some standing event meets it
+pub some_decided : (run : Run) (test : Event → Bool) (P : Event → Type 0) → ((f : Event) → Decides (test f) (P f)) → Decides (some run test) ((m : ℕ) × (f : Event) × Stands run m f × P f)
 unfolding any_below
-some_decided link run n e P each =
-    let p : ℕ → Bool = λ m. holds (run m) (linked link n e m) in
-    Decides-like (some_linked link run n e)
+some_decided run test P each =
+    let p : ℕ → Bool = λ m. holds (run m) test in
+    Decides-like (some run test)
     (λ h. (h.0, h.2.0, (h.1, h.2.1), h.2.2))
     (λ h. (h.0, h.2.0, (h.1, h.2.1, h.3)))
-    (Decides-below_or p (λ m. (f : Event) × (run m ≡ Some f) × P m f) (any_below p) (λ m. holds_decided (run m) (linked link n e m) (P m) (each m)) refl (λ _. refl) 32)
+    (Decides-below_or p (λ m. (f : Event) × (run m ≡ Some f) × P f) (any_below p) (λ m. holds_decided (run m) test P each) refl (λ _. refl) 32)
 
--- a link's test of another event decides that it is another one
-pub other_decided : {P Q : Type 0} (m n : ℕ) (a b : Bool) → Decides a P → Decides b Q → Decides (not (eqb m n) && (a && b)) ((m ≡ n → ⊥) × (P × Q))
-other_decided m n a b d k = Decides-and (not (eqb m n)) (a && b) (Decides-not (eqb m n) (Decides-eqb m n)) (Decides-and a b d k)
+-- what stands when an event is left out is another one
+pub others_stand : (run : Run) (n m : ℕ) (f : Event) → Stands (without n run) m f ↔ ((m ≡ n → ⊥) × Stands run m f)
+others_stand run n m f = (
+  λ s. ⊎_elim
+      (λ e. let clash : None ≡ Some f = sym (ap (λ b. cond b None (run m)) (eq-eqb m n e)) ∙ s.1 in absurd (cc clash))
+      (λ ne. (ne, (s.0, sym (ap (λ b. cond b None (run m)) (ne_eqb m n ne)) ∙ s.1)))
+      (cases_eq m n),
+  λ h. (h.1.0, ap (λ b. cond b None (run m)) (ne_eqb m n h.0) ∙ h.1.1),
+)
 
--- where a link asks for another event, its denial says that there is no other one
-pub only_decided : (link : Link) (run : Run) (n : ℕ) (e : Event) (P Q : Event → Type 0) → ((m : ℕ) (f : Event) → Decides (linked link n e m f) ((m ≡ n → ⊥) × (P f × Q f))) → Decides (not (some_linked link run n e)) ((m : ℕ) (f : Event) → Stands run m f → P f → Q f → m ≡ n)
-only_decided link run n e P Q each =
-    Decides-like (not (some_linked link run n e))
-    (λ none m f stands p q. ⊎_elim (λ same. same) (λ other. absurd (none (m, f, stands, (other, (p, q))))) (cases_eq m n))
-    (λ only h. h.3.0 (only h.0 h.1 h.2 h.3.1.0 h.3.1.1))
-    (Decides-not (some_linked link run n e) (some_decided link run n e (λ m f. (m ≡ n → ⊥) × (P f × Q f)) each))
+-- a test of the others decides that another standing event meets it
+pub other_decided : (run : Run) (n : ℕ) (test : Event → Bool) (P : Event → Type 0) → ((f : Event) → Decides (test f) (P f)) → Decides (some_other run n test) ((m : ℕ) × (f : Event) × (m ≡ n → ⊥) × Stands run m f × P f)
+other_decided run n test P each =
+    Decides-like _
+    (λ h. let s = (others_stand run n h.0 h.1).0 h.2 in (h.0, h.1, s.0, s.1, h.3))
+    (λ h. (h.0, h.1, (others_stand run n h.0 h.1).1 (h.2, h.3), h.4))
+    (some_decided (without n run) test P each)
+
+-- its denial says that there is no other one
+pub only_decided : (run : Run) (n : ℕ) (test : Event → Bool) (P : Event → Type 0) → ((f : Event) → Decides (test f) (P f)) → Decides (not (some_other run n test)) ((m : ℕ) (f : Event) → Stands run m f → P f → m ≡ n)
+only_decided run n test P each =
+    Decides-like _
+    (λ none m f stands p. ⊎_elim (λ same. same) (λ other. absurd (none (m, f, other, stands, p))) (cases_eq m n))
+    (λ only h. h.2 (only h.0 h.1 h.3 h.4))
+    (Decides-not _ (other_decided run n test P each))
 
 -- no other event has the thread and step
-pub only_step_decided : (run : Run) (n : ℕ) (e : Event) → Decides (not (some_linked SameStep run n e)) ((m : ℕ) (f : Event) → Stands run m f → f.thread ≡ e.thread → f.step ≡ e.step → m ≡ n)
+pub only_step_decided : (run : Run) (n : ℕ) (e : Event) → Decides (not (some_other run n (λ f. same_step f e))) ((m : ℕ) (f : Event) → Stands run m f → f.thread ≡ e.thread → f.step ≡ e.step → m ≡ n)
 only_step_decided run n e =
-    only_decided SameStep run n e (λ f. f.thread ≡ e.thread) (λ f. f.step ≡ e.step)
-    (λ m f. other_decided m n _ _ (Decides-eqb f.thread e.thread) (Decides-eqb f.step e.step))
+    Decides-like _
+    (λ only m f stands thread step. only m f stands (thread, step))
+    (λ only m f stands h. only m f stands h.0 h.1)
+    (only_decided run n _ (λ f. (f.thread ≡ e.thread) × (f.step ≡ e.step)) (λ f. Decides-and _ _ (Decides-eqb f.thread e.thread) (Decides-eqb f.step e.step)))
 
 -- no other initial write has the location
-pub only_initial_decided : (run : Run) (n : ℕ) (e : Event) → Decides (not (some_linked Twin run n e)) ((m : ℕ) (f : Event) → Stands run m f → Initial f → SamePlace f e → m ≡ n)
+pub only_initial_decided : (run : Run) (n : ℕ) (e : Event) → Decides (not (some_other run n (λ f. is_initial f && same_place f e))) ((m : ℕ) (f : Event) → Stands run m f → Initial f → SamePlace f e → m ≡ n)
 only_initial_decided run n e =
-    only_decided Twin run n e Initial (λ f. SamePlace f e)
-    (λ m f. other_decided m n _ _ (initial_decided f) (place_decided f e))
+    Decides-like _
+    (λ only m f stands initial place. only m f stands (initial, place))
+    (λ only m f stands h. only m f stands h.0 h.1)
+    (only_decided run n _ (λ f. Initial f × SamePlace f e) (λ f. Decides-and _ _ (initial_decided f) (place_decided f e)))
+
+-- a settled write of the location
+pub rival_decided : (f e : Event) → Decides (is_write f && (f.settled && same_place f e)) (Write f × ((f.settled ≡ true) × SamePlace f e))
+rival_decided f e = Decides-and _ _ (write_decided f) (Decides-and _ _ (flag_decided f.settled) (place_decided f e))
 
 -- no other settled write has the location
-pub only_settled_decided : (run : Run) (n : ℕ) (e : Event) → Decides (not (some_linked OtherSettled run n e)) (OnlySettled run n e)
+pub only_settled_decided : (run : Run) (n : ℕ) (e : Event) → Decides (not (rivalled run n e)) (OnlySettled run n e)
 only_settled_decided run n e =
     Decides-like _
-    (λ only m f stands write up place. only m f stands write (up, place))
-    (λ only m f stands write h. only m f stands write h.0 h.1)
-    (only_decided OtherSettled run n e Write (λ f. (f.settled ≡ true) × SamePlace f e)
-    (λ m f. other_decided m n _ _ (write_decided f) (Decides-and _ _ (flag_decided f.settled) (place_decided f e))))
+    (λ only m f stands write up place. only m f stands (write, (up, place)))
+    (λ only m f stands h. only m f stands h.0 h.1.0 h.1.1)
+    (only_decided run n _ (λ f. Write f × ((f.settled ≡ true) × SamePlace f e)) (λ f. rival_decided f e))
 
 -- no other write has the location
-pub only_write_decided : (run : Run) (n : ℕ) (e : Event) → Decides (not (some_linked OtherWrite run n e)) (OnlyWrite run n e)
+pub only_write_decided : (run : Run) (n : ℕ) (e : Event) → Decides (not (some_other run n (λ f. is_write f && same_place f e))) (OnlyWrite run n e)
 only_write_decided run n e =
-    only_decided OtherWrite run n e Write (λ f. SamePlace f e)
-    (λ m f. other_decided m n _ _ (write_decided f) (place_decided f e))
+    Decides-like _
+    (λ only m f stands write place. only m f stands (write, place))
+    (λ only m f stands h. only m f stands h.0 h.1)
+    (only_decided run n _ (λ f. Write f × SamePlace f e) (λ f. Decides-and _ _ (write_decided f) (place_decided f e)))
 
 -- the test of a source decides where it is
 pub sourced_decided : (o : Option ℕ) (m : ℕ) → Decides (sourced_at o m) (o ≡ Some m)
@@ -154,22 +175,48 @@ pub tied_decided : (o : Option ℕ) → Decides (is_some o) ((w : ℕ) × (o ≡
 tied_decided None = (λ e. absurd (false≢true e), λ h. cc h.1)
 tied_decided (Some w) = (λ _. (w, refl), λ _. refl)
 
--- a standing write at its source supplies the event
-pub supplied_decided : (run : Run) (n : ℕ) (e : Event) → Decides (some_linked Source run n e) ((w : ℕ) × (e.source ≡ Some w) × Supplies run w e)
-supplied_decided run n e =
+-- what a source shows at a number stands there
+pub shown_stands : (run : Run) (n : ℕ) (e : Event) → shown run n ≡ Some e → Stands run n e
+shown_stands run n e h =
+    ⊎_elim
+    (λ lt. (lt, cond_below n 32 (run n) None lt ∙ h))
+    (λ le. let clash : None ≡ Some e = cond_above n 32 (run n) None None le refl ∙ h in absurd (cc clash))
+    (cases_lt n 32)
+
+pub stands_shown : (run : Run) (n : ℕ) (e : Event) → Stands run n e → shown run n ≡ Some e
+stands_shown run n e s = sym (cond_below n 32 (run n) None s.0) ∙ s.1
+
+-- a test of what is shown at a number decides that such an event stands there
+pub shown_decided : (run : Run) (n : ℕ) (p : Event → Bool) (P : Event → Type 0) → ((e : Event) → Decides (p e) (P e)) → Decides (holds (shown run n) p) ((e : Event) × Stands run n e × P e)
+shown_decided run n p P each =
+    Decides-like _ (λ h. (h.0, shown_stands run n h.0 h.1, h.2)) (λ h. (h.0, stands_shown run n h.0 h.1, h.2))
+    (holds_decided (shown run n) p P each)
+
+-- the write that is shown at a number supplies the event
+pub supplied_decided : (run : Run) (w : ℕ) (e : Event) → Decides (holds (shown run w) (supplies e)) (Supplies run w e)
+supplied_decided run w e =
     Decides-like _
-    (λ h. (h.0, h.3.0, record { write = h.1; stands = h.2; writes = h.3.1.0; place = h.3.1.1.0; same = h.3.1.1.1 }))
-    (λ h. (h.0, h.2.write, h.2.stands, (h.1, (h.2.writes, (h.2.place, h.2.same)))))
-    (some_decided Source run n e (λ m f. (e.source ≡ Some m) × (Write f × (SamePlace f e × (f.value ≡ e.value))))
-    (λ m f. Decides-and _ _ (sourced_decided e.source m) (Decides-and _ _ (write_decided f) (Decides-and _ _ (place_decided f e) (Decides-eqb f.value e.value)))))
+    (λ h. record { write = h.0; stands = h.1; writes = h.2.0; place = h.2.1.0; same = h.2.1.1 })
+    (λ h. (h.write, h.stands, (h.writes, (h.place, h.same))))
+    (shown_decided run w (supplies e) (λ f. Write f × (SamePlace f e × (f.value ≡ e.value)))
+    (λ f. Decides-and _ _ (write_decided f) (Decides-and _ _ (place_decided f e) (Decides-eqb f.value e.value))))
+
+-- only a read has a source, which supplies it
+pub sources_decided : (run : Run) (e : Event) (o : Option ℕ) → Decides (not (ill_sourced run e o)) ((w : ℕ) → o ≡ Some w → Read e × Supplies run w e)
+sources_decided run e None = (λ h w clash. absurd (cc clash), λ h. refl)
+sources_decided run e (Some w) =
+    Decides-like _
+    (λ h v is. let same : w ≡ v = cc is in subst (λ u. Read e × Supplies run u e) same h)
+    (λ h. h w refl)
+    (twice_decided _ (Decides-and _ _ (read_decided e) (supplied_decided run w e)))
 
 -- some initial write has the location
-pub origin_decided : (run : Run) (n : ℕ) (e : Event) → Decides (some_linked Origin run n e) ((m : ℕ) × (f : Event) × Stands run m f × Initial f × SamePlace f e)
+pub origin_decided : (run : Run) (n : ℕ) (e : Event) → Decides (some run (λ f. is_initial f && same_place f e)) ((m : ℕ) × (f : Event) × Stands run m f × Initial f × SamePlace f e)
 origin_decided run n e =
     Decides-like _
     (λ h. (h.0, h.1, h.2, h.3.0, h.3.1))
     (λ h. (h.0, h.1, h.2, (h.3, h.4)))
-    (some_decided Origin run n e (λ m f. Initial f × SamePlace f e) (λ m f. Decides-and _ _ (initial_decided f) (place_decided f e)))
+    (some_decided run _ (λ f. Initial f × SamePlace f e) (λ f. Decides-and _ _ (initial_decided f) (place_decided f e)))
 
 -- a settled event is a write, and the only settled one of its location
 pub settled_decided : (run : Run) (n : ℕ) (e : Event) → Decides (not (misplaced run n e)) (e.settled ≡ true → Write e × OnlySettled run n e)
@@ -181,17 +228,12 @@ pub decided : (rule : Rule) (run : Run) (n : ℕ) (e : Event) → Decides (not (
 decided Ranges run n e = twice_decided (in_range e) (range_decided e)
 decided Steps run n e = unless_decided (is_threaded e) _ (threaded_decided e) (only_step_decided run n e)
 decided Initials run n e = unless_decided (is_initial e) _ (initial_decided e) (only_initial_decided run n e)
-decided Sources run n e =
-    Decides-like (not (broken Sources run n e))
-    (λ h w at. let k = h (w, at) in let same : k.1.0 ≡ w = cc (at, k.1.1) in (k.0, subst (λ v. Supplies run v e) same k.1.2))
-    (λ h tied. let k = h tied.0 tied.1 in (k.0, (tied.0, tied.1, k.1)))
-    (unless_decided (is_some e.source) _ (tied_decided e.source)
-    (twice_decided (is_read e && some_linked Source run n e) (Decides-and _ _ (read_decided e) (supplied_decided run n e))))
+decided Sources run n e = sources_decided run e e.source
 decided Settlings run n e =
     Decides-like (not (broken Settlings run n e))
     (λ h up. ((h.0 up).0, (h.0 up).1, h.1 up))
     (λ h. (λ up. ((h up).0, (h up).1), λ up. (h up).2))
     (neither_decided (misplaced run n e) _ (settled_decided run n e)
     (unless_decided e.settled _ (flag_decided e.settled) (unless_decided (is_initial e) _ (initial_decided e) (only_write_decided run n e))))
-decided Initialised run n e = unless_decided (is_memory e) _ (memory_decided e) (twice_decided (some_linked Origin run n e) (origin_decided run n e))
+decided Initialised run n e = unless_decided (is_memory e) _ (memory_decided e) (twice_decided (some run (λ f. is_initial f && same_place f e)) (origin_decided run n e))
 decided Tied run n e = unless_decided (is_read e) _ (read_decided e) (twice_decided _ (tied_decided e.source))

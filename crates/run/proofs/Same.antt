@@ -1,16 +1,14 @@
 -- The tests and the rules look at a run only below 32. Assumes nothing.
-use Rattle.std.proofs.Common.{◌≡◌, ℕ, ◌<◌, not, ◌&&◌, is_some, Some, None, Option, sym, refl, ap, ◌∙◌, subst}
+use Rattle.std.proofs.Common.{◌≡◌, ℕ, ◌<◌, Bool, cond, not, ◌&&◌, eqb, Some, None, Option, sym, refl, ap, ◌∙◌, subst, ⊎_elim}
 use mathlib.Core.Path.{fun_ext}
-use Rattle.std.proofs.lemmas.Bool.{cond_below}
+use Rattle.std.proofs.lemmas.Bool.{cases_lt, cond_below, cond_above}
 use Rattle.run.specs.declared.event.Event.{Event}
-use Rattle.run.specs.declared.link.Link.{Link}
-use Rattle.run.specs.declared.link.Link.TheVariants.{SameStep, Twin, Source, OtherSettled, OtherWrite, Origin}
 use Rattle.run.specs.declared.rule.Rule.{Rule}
 use Rattle.run.specs.declared.rule.Rule.TheVariants.{Ranges, Steps, Initials, Sources, Settlings, Initialised, Tied}
 use Rattle.run.specs.declared.rule.Breach.{Breach}
 use Rattle.run.specs.Runs.{Run, Stands, shown}
 use Rattle.run.specs.Rules.{Keeps, Kept, Examined}
-use Rattle.run.specs.Tests.{holds, is_read, is_initial, is_memory, is_threaded, linked, some_linked, broken, faulty}
+use Rattle.run.specs.Tests.{holds, is_read, is_initial, is_write, is_memory, is_threaded, same_place, same_step, supplies, some, some_other, ill_sourced, broken, faulty}
 use Rattle.run.proofs.Below.{any_same}
 use Rattle.run.proofs.Rules.{decided}
 
@@ -19,18 +17,35 @@ abbrev pub Alike : Run → Run → Type 0
 Alike run other = (m : ℕ) → m < 32 → run m ≡ other m
 
 module _ (run other : Run) (same : Alike run other) where
-  -- a link's test comes out alike
-  pub some_linked_same : (link : Link) (n : ℕ) (e : Event) → some_linked link run n e ≡ some_linked link other n e
-  some_linked_same link n e = any_same _ _ 32 (λ m lt. ap (λ o. holds o (linked link n e m)) (same m lt))
+  -- a test of the events comes out alike
+  pub some_same : (test : Event → Bool) → some run test ≡ some other test
+  some_same test = any_same _ _ 32 (λ m lt. ap (λ o. holds o test) (same m lt))
+
+  -- and so does a test of the others
+  pub some_other_same : (n : ℕ) (test : Event → Bool) → some_other run n test ≡ some_other other n test
+  some_other_same n test = any_same _ _ 32 (λ m lt. ap (λ o. holds (cond (eqb m n) None o) test) (same m lt))
+
+  -- what is shown is alike
+  shown_same : (n : ℕ) → shown run n ≡ shown other n
+  shown_same n =
+      ⊎_elim
+      (λ lt. sym (cond_below n 32 (run n) None lt) ∙ same n lt ∙ cond_below n 32 (other n) None lt)
+      (λ le. sym (cond_above n 32 (run n) None None le refl) ∙ cond_above n 32 (other n) None None le refl)
+      (cases_lt n 32)
+
+  -- and so is the test of a source
+  pub ill_sourced_same : (e : Event) (o : Option ℕ) → ill_sourced run e o ≡ ill_sourced other e o
+  ill_sourced_same e None = refl
+  ill_sourced_same e (Some w) = ap (λ o. not (is_read e && holds o (supplies e))) (shown_same w)
 
   -- the test of a rule comes out alike
   pub broken_same : (rule : Rule) (n : ℕ) (e : Event) → broken rule run n e ≡ broken rule other n e
   broken_same Ranges n e = refl
-  broken_same Steps n e = ap (λ b. is_threaded e && b) (some_linked_same SameStep n e)
-  broken_same Initials n e = ap (λ b. is_initial e && b) (some_linked_same Twin n e)
-  broken_same Sources n e = ap (λ b. is_some e.source && not (is_read e && b)) (some_linked_same Source n e)
-  broken_same Settlings n e = rw (some_linked_same OtherSettled n e, some_linked_same OtherWrite n e) refl
-  broken_same Initialised n e = ap (λ b. is_memory e && not b) (some_linked_same Origin n e)
+  broken_same Steps n e = ap (λ b. is_threaded e && b) (some_other_same n (λ f. same_step f e))
+  broken_same Initials n e = ap (λ b. is_initial e && b) (some_other_same n (λ f. is_initial f && same_place f e))
+  broken_same Sources n e = ill_sourced_same e e.source
+  broken_same Settlings n e = rw (some_other_same n (λ f. is_write f && (f.settled && same_place f e)), some_other_same n (λ f. is_write f && same_place f e)) refl
+  broken_same Initialised n e = ap (λ b. is_memory e && not b) (some_same (λ f. is_initial f && same_place f e))
   broken_same Tied n e = refl
 
   -- and so does that of the event at a number

@@ -2,6 +2,7 @@ pub mod Kinds
 pub mod Events
 pub mod Runs
 pub mod Masks
+pub mod Searches
 pub mod Numbers
 pub mod Rules
 pub mod Tests

@@ -1,11 +1,9 @@
 -- The rules as tests that compute, for the code. proofs/Rules shows that each test decides its rule. Assumes nothing.
 use Rattle.std.specs.Prelude.{◌≡◌, ℕ, zero, suc, ◌<◌, Bool, true, false, not, ◌&&◌, ◌||◌, List, is_some, Some, None, Option, ◌==◌, nat_le, slice_index_or}
 use Rattle.run.specs.declared.event.Event.{Event}
-use Rattle.run.specs.declared.link.Link.{Link}
-use Rattle.run.specs.declared.link.Link.TheVariants.{SameStep, Twin, Source, OtherSettled, OtherWrite, Origin}
 use Rattle.run.specs.declared.rule.Rule.{Rule}
 use Rattle.run.specs.declared.rule.Rule.TheVariants.{Ranges, Steps, Initials, Sources, Settlings, Initialised, Tied}
-use Rattle.run.specs.Runs.{Run}
+use Rattle.run.specs.Runs.{Run, shown, without}
 
 -- the run that a table of 32 answers holds
 abbrev pub table_run : List (Option Event) → Run
@@ -56,31 +54,43 @@ abbrev pub sourced_at : Option ℕ → ℕ → Bool
 sourced_at None m = false
 sourced_at (Some w) m = m == w
 
--- how the event f at m stands to the event e at n
-abbrev pub linked : Link → ℕ → Event → ℕ → Event → Bool
-linked SameStep n e m f = not (m == n) && (f.thread == e.thread && f.step == e.step)
-linked Twin n e m f = not (m == n) && (is_initial f && same_place f e)
-linked Source n e m f = sourced_at e.source m && (is_write f && (same_place f e && f.value == e.value))
-linked OtherSettled n e m f = not (m == n) && (is_write f && (f.settled && same_place f e))
-linked OtherWrite n e m f = not (m == n) && (is_write f && same_place f e)
-linked Origin n e m f = is_initial f && same_place f e
+-- both of one thread and step
+abbrev pub same_step : Event → Event → Bool
+same_step e f = e.thread == f.thread && e.step == f.step
 
--- some standing event stands so to the event e at n
-abbrev pub some_linked : Link → Run → ℕ → Event → Bool
-some_linked link run n e = any_below (λ m. holds (run m) (linked link n e m)) 32
+-- a write of the location and value of the event e
+abbrev pub supplies : Event → Event → Bool
+supplies e f = is_write f && (same_place f e && f.value == e.value)
+
+-- some standing event passes a test
+abbrev pub some : Run → (Event → Bool) → Bool
+some run test = any_below (λ m. holds (run m) test) 32
+
+-- another event than the one at n passes a test
+abbrev pub some_other : Run → ℕ → (Event → Bool) → Bool
+some_other run n test = some (without n run) test
+
+-- another settled write has the location of the event e at n
+abbrev pub rivalled : Run → ℕ → Event → Bool
+rivalled run n e = some_other run n (λ f. is_write f && (f.settled && same_place f e))
 
 -- settled, and no write or not the only settled one of its location
 abbrev pub misplaced : Run → ℕ → Event → Bool
-misplaced run n e = e.settled && (not (is_write e) || some_linked OtherSettled run n e)
+misplaced run n e = e.settled && (not (is_write e) || rivalled run n e)
+
+-- the event e has a source, and is no read or not supplied by it
+abbrev pub ill_sourced : Run → Event → Option ℕ → Bool
+ill_sourced run e None = false
+ill_sourced run e (Some w) = not (is_read e && holds (shown run w) (supplies e))
 
 -- the event e at n breaks the rule
 abbrev pub broken : Rule → Run → ℕ → Event → Bool
 broken Ranges run n e = not (in_range e)
-broken Steps run n e = is_threaded e && some_linked SameStep run n e
-broken Initials run n e = is_initial e && some_linked Twin run n e
-broken Sources run n e = is_some e.source && not (is_read e && some_linked Source run n e)
-broken Settlings run n e = misplaced run n e || (e.settled && (is_initial e && some_linked OtherWrite run n e))
-broken Initialised run n e = is_memory e && not (some_linked Origin run n e)
+broken Steps run n e = is_threaded e && some_other run n (λ f. same_step f e)
+broken Initials run n e = is_initial e && some_other run n (λ f. is_initial f && same_place f e)
+broken Sources run n e = ill_sourced run e e.source
+broken Settlings run n e = misplaced run n e || (e.settled && (is_initial e && some_other run n (λ f. is_write f && same_place f e)))
+broken Initialised run n e = is_memory e && not (some run (λ f. is_initial f && same_place f e))
 broken Tied run n e = is_read e && not (is_some e.source)
 
 -- an event stands at n that breaks the rule

@@ -2,7 +2,7 @@
 
 ghost use Rattle.std.specs.Prelude.{◌≡◌};
 ghost use Rattle.run.specs.Kinds.{is};
-ghost use Rattle.run.specs.Tests.{is_read, is_initial, is_write, is_memory, is_threaded, same_place, well_threaded, well_placed, in_range};
+ghost use Rattle.run.specs.Tests.{is_read, is_initial, is_write, is_memory, is_threaded, same_place, same_step, supplies, well_threaded, well_placed, in_range};
 
 /// What an event can be, each kind with its number.
 #[derive(Clone, Copy, PartialEq, Eq, Debug)]
@@ -75,6 +75,20 @@ impl Event {
         ensures { result ≡ same_place self.now other.now }
     {
         self.location == other.location
+    }
+
+    /// Whether it has the thread and step of another.
+    pub(crate) fn same_step(&self, other: &Event) -> bool
+        ensures { result ≡ same_step self.now other.now }
+    {
+        self.thread == other.thread && self.step == other.step
+    }
+
+    /// Whether it is a write of the location and value of another.
+    pub(crate) fn supplies(&self, other: &Event) -> bool
+        ensures { result ≡ supplies other.now self.now }
+    {
+        self.is_write() && self.same_place(other) && self.value == other.value
     }
 
     /// Whether its thread and step are those that its kind asks for.

@@ -2,7 +2,6 @@
 #![tactic(auto)]
 
 pub mod event;
-pub mod link;
 pub mod rule;
 pub mod snapshot;
 pub mod sound;
@@ -10,7 +9,6 @@ pub mod source;
 pub mod window;
 
 pub use event::{Event, Kind};
-pub use link::Link;
 pub use rule::{Breach, Rule};
 pub use snapshot::Snapshot;
 pub use sound::soundness;

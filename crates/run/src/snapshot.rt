@@ -1,13 +1,12 @@
 //! A snapshot: the events of a run, read from a source once.
 ghost use Rattle.std.specs.Prelude.{◌≡◌, ℕ, ◌<◌, true};
 ghost use Rattle.std.specs.Fn.{FnReturnsAt};
-ghost use Rattle.run.specs.Runs.{Run, shown, nothing};
+ghost use Rattle.run.specs.Runs.{Run, shown, nothing, without};
 ghost use Rattle.run.specs.Masks.{Gathered};
-ghost use Rattle.run.specs.Tests.{table_run, holds, linked, some_linked, misplaced, broken, faulty, Lowest};
+ghost use Rattle.run.specs.Searches.{Searched};
+ghost use Rattle.run.specs.Tests.{table_run, holds, rivalled, misplaced, ill_sourced, broken, faulty, Lowest};
 
 use super::event::Event;
-use super::link;
-use super::link::Link;
 use super::rule::Rule;
 use super::source::RunSource;
 
@@ -26,12 +25,6 @@ impl RunSource for Snapshot {
     }
 }
 
-fn linked_at(link: Link, n: u8, event: &Event, m: u8, other: Option<Event>) -> bool
-    ensures { result ≡ holds other (linked link n event.now m) }
-{
-    other.is_some_and(|found| link::linked(link, n, event, m, &found))
-}
-
 impl Snapshot {
     /// The table with no event.
     pub fn empty() -> Snapshot
@@ -40,22 +33,48 @@ impl Snapshot {
         Snapshot { events: [None; 32] }
     }
 
-    /// Whether some event stands so to the event at `n`.
-    pub fn some_linked(&self, link: Link, n: u8, event: &Event) -> bool
-        ensures { result ≡ some_linked link (table_run self.now.events) n event.now }
+    /// Whether some event passes a test.
+    pub fn some<F: Fn(&Event) -> bool>(&self, test: F) -> bool
+        requires { F.IsAlwaysCallable test }
+        ensures { Searched (FnReturnsAt F.Fn test) (table_run self.now.events) result }
     {
-        let mut found = false;
-        for m in 0..32u8 {
-            found = linked_at(link, n, event, m, self.events[m as usize]) | found;
-        }
-        found
+        self.events
+            .iter()
+            .any(|event| event.is_some_and(|found| test(&found)))
+    }
+
+    /// Whether some event passes a test, the one at `n` left out.
+    pub fn some_other<F: Fn(&Event) -> bool>(&self, n: u8, test: F) -> bool
+        requires { F.IsAlwaysCallable test }
+        ensures { Searched (FnReturnsAt F.Fn test) (without n (table_run self.now.events)) result }
+    {
+        (0..32u8).any(|m| m != n && self.event(m).is_some_and(|other| test(&other)))
+    }
+
+    /// Whether another settled write has the location of the event at `n`.
+    pub fn rivalled(&self, n: u8, event: &Event) -> bool
+        ensures { result ≡ rivalled (table_run self.now.events) n event.now }
+    {
+        self.some_other(
+            n,
+            |other| other.is_write() && other.settled && other.same_place(event),
+        )
     }
 
     /// Whether the event is settled though it is no write, or not the only settled one of its location.
     pub(crate) fn misplaced(&self, n: u8, event: &Event) -> bool
         ensures { result ≡ misplaced (table_run self.now.events) n event.now }
     {
-        event.settled && (!event.is_write() || self.some_linked(Link::OtherSettled, n, event))
+        event.settled && (!event.is_write() || self.rivalled(n, event))
+    }
+
+    /// Whether the event has a source that does not supply it.
+    fn ill_sourced(&self, event: &Event) -> bool
+        ensures { result ≡ ill_sourced (table_run self.now.events) event.now event.now.source }
+    {
+        event.source.is_some_and(|write| {
+            !(event.is_read() && self.event(write).is_some_and(|found| found.supplies(event)))
+        })
     }
 
     /// Whether the event at `n` breaks a rule.
@@ -64,36 +83,40 @@ impl Snapshot {
     {
         match rule {
             Rule::Ranges => !event.in_range(),
-            Rule::Steps => event.is_threaded() && self.some_linked(Link::SameStep, n, event),
-            Rule::Initials => event.is_initial() && self.some_linked(Link::Twin, n, event),
-            Rule::Sources => event.source.is_some()
-                && !(event.is_read() && self.some_linked(Link::Source, n, event)),
-            Rule::Settlings => {
-                let alone = event.is_initial() && self.some_linked(Link::OtherWrite, n, event);
-                self.misplaced(n, event) || (event.settled && alone)
+            Rule::Steps => event.is_threaded()
+                && self.some_other(n, |other| other.same_step(event)),
+            Rule::Initials => {
+                event.is_initial()
+                    && self.some_other(n, |other| other.is_initial() && other.same_place(event))
             }
-            Rule::Initialised => event.is_memory() && !self.some_linked(Link::Origin, n, event),
+            Rule::Sources => self.ill_sourced(event),
+            Rule::Settlings => {
+                self.misplaced(n, event)
+                    || event.settled
+                        && event.is_initial()
+                        && self.some_other(n, |other| other.is_write() && other.same_place(event))
+            }
+            Rule::Initialised => {
+                event.is_memory()
+                    && !self.some(|other| other.is_initial() && other.same_place(event))
+            }
             Rule::Tied => event.is_read() && event.source.is_none(),
         }
     }
 
+    /// Whether an event stands at `n` that breaks a rule.
     fn faulty(&self, rule: Rule, n: u8) -> bool
-        requires { n < 32 }
-        ensures { result ≡ faulty rule (table_run self.now.events) n }
+        ensures { result ≡ holds (shown (table_run self.now.events) n) (broken rule (table_run self.now.events) n) }
     {
-        self.events[n as usize].is_some_and(|event| self.broken(rule, n, &event))
+        self.event(n)
+            .is_some_and(|event| self.broken(rule, n, &event))
     }
 
     /// The lowest event that breaks a rule.
     pub(crate) fn lowest_broken(&self, rule: Rule) -> Option<u8>
         ensures { Lowest (faulty rule (table_run self.now.events)) result }
     {
-        for n in 0..32u8 {
-            if self.faulty(rule, n) {
-                return Some(n);
-            }
-        }
-        None
+        (0..32u8).find(|n| self.faulty(rule, *n))
     }
 
     /// The numbers of the events that pass a test, as a mask: bit n for the event at n.

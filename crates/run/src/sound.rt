@@ -7,6 +7,7 @@ ghost use Rattle.run.specs.Tests.{table_run};
 use super::rule::{Breach, Rule};
 use super::snapshot::Snapshot;
 use super::source::RunSource;
+use std::array;
 
 /// The rules in the order in which they are tried.
 const RULES: [Rule; 7] = [
@@ -24,11 +25,9 @@ impl Snapshot {
     pub fn of<S: RunSource>(source: &S) -> Snapshot
         ensures { table_run result.events ≡ shown (S.RunSource.standing source.now) }
     {
-        let mut events = [None; 32];
-        for n in 0..32u8 {
-            events[n as usize] = source.event(n);
+        Snapshot {
+            events: array::from_fn(|n| source.event(n as u8)),
         }
-        Snapshot { events }
     }
 
     /// The first rule that the run breaks, with the lowest event at fault.

@@ -11,7 +11,7 @@ ghost use Rattle.bench.specs.declared.action.Action.TheVariants.{Enter, Tie, Set
 use super::Bench;
 use crate::action::{Action, Entry};
 use crate::fault::BenchFault;
-use crate::refuse::refusal;
+use crate::refuse::judge;
 use crate::take::take;
 use run::{Event, RunSource, Snapshot};
 
@@ -29,8 +29,9 @@ impl Bench {
     pub fn new() -> Bench
         ensures { bench_run result ≡ nothing }
     {
-        let table = Snapshot::empty();
-        Bench { table }
+        Bench {
+            table: Snapshot::empty(),
+        }
     }
 
     /// The events on the bench, with what every bench keeps.
@@ -48,9 +49,7 @@ impl Bench {
         ensures value { result ≡ answer (refusal (bench_run self.old) action) }
         ensures run { bench_run self.new ≡ stepped (refusal (bench_run self.old) action) (bench_run self.old) action }
     {
-        if let Some(fault) = refusal(&self.table, action) {
-            return Err(fault);
-        }
+        judge(&self.table, action)?;
         take(&mut self.table, action);
         Ok(())
     }
