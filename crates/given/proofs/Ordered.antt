@@ -5,6 +5,7 @@ use native.Mathlib.Nat.{div-eq_of_lt}
 use Rattle.std.proofs.lemmas.Nat.{pow_below}
 use Rattle.std.proofs.lemmas.Bool.{cases_lt, false≢true}
 use Rattle.std.proofs.lemmas.Bool.Decides.{Decides-eqb}
+use Rattle.run.specs.Events.{Read, Write, Memory, Initial}
 use Rattle.run.specs.Runs.{Run}
 use Rattle.relation.specs.Sets.{Events, SameEvents}
 use Rattle.relation.specs.Relations.{Never, Identity, SamePairs}
@@ -13,12 +14,8 @@ use Rattle.coherence.specs.Coherence.{Order}
 use Rattle.coherence.specs.Masks.{has, Shown}
 use Rattle.term.specs.declared.term.Given.TheVariants as goal
 use Rattle.given.specs.declared.base.Base.{Base}
-use Rattle.given.specs.declared.bond.Bond.TheVariants as bond
-use Rattle.given.specs.declared.class.Class.TheVariants as class
-use Rattle.given.specs.Givens.{those, ordered}
+use Rattle.given.specs.Givens.{those, program_order, reads_from, same_location, other_thread, ordered}
 use Rattle.given.specs.Bases.{BaseOf}
-use Rattle.given.specs.Classes.{Is}
-use Rattle.given.specs.Bonds.{bonded}
 use Rattle.given.specs.Orders.{no_order, Reordered}
 
 -- a row of 32 bits has no bit from 32 on
@@ -56,18 +53,18 @@ identity_same A B s a b = (λ h. ((s a).0 h.0, h.1), λ h. ((s a).1 h.0, h.1))
 -- what shows each class and each bond of a run is its data under no order
 pub base_made :
     (run : Run) (b : Base)
-    → Marks b.universe (those run (Is class.Standing))
-    → Marks b.reads (those run (Is class.Read))
-    → Marks b.writes (those run (Is class.Write))
-    → Marks b.fences (those run (Is class.Fence))
-    → Marks b.branches (those run (Is class.Branch))
-    → Marks b.memory (those run (Is class.Memory))
-    → Marks b.initial (those run (Is class.Initial))
-    → Marks b.settled (those run (Is class.Settled))
-    → Shows b.program_order.rows (bonded run bond.ProgramOrder)
-    → Shows b.reads_from.rows (bonded run bond.ReadsFrom)
-    → Shows b.same_location.rows (bonded run bond.SameLocation)
-    → Shows b.other_thread.rows (bonded run bond.OtherThread)
+    → Marks b.universe (those run (λ e. Unit {0}))
+    → Marks b.reads (those run Read)
+    → Marks b.writes (those run Write)
+    → Marks b.fences (those run (λ e. e.kind ≡ 2))
+    → Marks b.branches (those run (λ e. e.kind ≡ 3))
+    → Marks b.memory (those run Memory)
+    → Marks b.initial (those run Initial)
+    → Marks b.settled (those run (λ e. Write e × (e.settled ≡ true)))
+    → Shows b.program_order.rows (program_order run)
+    → Shows b.reads_from.rows (reads_from run)
+    → Shows b.same_location.rows (same_location run)
+    → Shows b.other_thread.rows (other_thread run)
     → Shows b.coherence.rows Never
     → BaseOf run no_order b
 base_made run b u r w f br m i s po rf loc ext co goal.Universe = u.same

@@ -1,31 +1,24 @@
--- Bonds between two events, as facts and as tests. Assumes nothing.
-use Rattle.std.specs.Prelude.{◌≡◌, ℕ, ◌<◌, Bool, not, ◌&&◌, Some, ◌==◌, nat_lt}
+-- Relations made by a test of two events, row by row. Assumes nothing.
+use Rattle.std.specs.Prelude.{◌≡◌, ℕ, ◌<◌, Bool, None, List, length, slice_index}
+use denote.Ref.{Bor}
+use Rattle.std.specs.Fn.{Shared, FnReturns}
 use Rattle.run.specs.declared.event.Event.{Event}
-use Rattle.run.specs.Events.{Memory, Threaded, SamePlace}
-use Rattle.run.specs.Runs.{Run}
-use Rattle.run.specs.Tests.{is_memory, is_threaded, same_place, sourced_at}
-use Rattle.relation.specs.Relations.{Pairs}
-use Rattle.given.specs.declared.bond.Bond.{Bond}
-use Rattle.given.specs.declared.bond.Bond.TheVariants as bond
-use Rattle.given.specs.Givens.{program_order, reads_from, same_location, other_thread}
+use Rattle.run.specs.Runs.{Run, Stands}
+use Rattle.run.specs.Masks.{Gathered}
 
--- the pairs of a bond
-abbrev pub bonded : Run → Bond → Pairs
-bonded run bond.ProgramOrder = program_order run
-bonded run bond.ReadsFrom = reads_from run
-bonded run bond.SameLocation = same_location run
-bonded run bond.OtherThread = other_thread run
+-- of the event e at number a and another event f the test may give this answer
+pub record Answers {F : Type 0} (g : Shared F (ℕ × (Bor Event × (Bor Event × Unit {0}))) Bool) (test : F) (a : ℕ) (e f : Event) (answer : Bool) : Type 0 where
+  pub first : Bor Event
+  pub second : Bor Event
+  pub shows : (first.now ≡ e) × (second.now ≡ f)
+  pub says : FnReturns g test (a, (first, (second, tt))) answer
 
--- what a bond asks of the event e at number a and another event f
-abbrev pub Bound : Bond → ℕ → Event → Event → Type 0
-Bound bond.ProgramOrder a e f = Threaded e × (e.thread ≡ f.thread) × (e.step < f.step)
-Bound bond.ReadsFrom a e f = f.source ≡ Some a
-Bound bond.SameLocation a e f = Memory e × Memory f × SamePlace e f
-Bound bond.OtherThread a e f = e.thread ≡ f.thread → ⊥
+-- a row has the test's answers, where an event stands at its number, and is clear where none does
+pub record RowOf (answers : ℕ → Event → Event → Bool → Type 0) (run : Run) (a row : ℕ) : Type 0 where
+  pub answered : (e : Event) → Stands run a e → Gathered (answers a e) run row
+  pub clear : run a ≡ None → row ≡ 0
 
--- the same, computed
-abbrev pub is_bound : Bond → ℕ → Event → Event → Bool
-is_bound bond.ProgramOrder a e f = is_threaded e && (e.thread == f.thread && nat_lt e.step f.step)
-is_bound bond.ReadsFrom a e f = sourced_at f.source a
-is_bound bond.SameLocation a e f = is_memory e && (is_memory f && same_place e f)
-is_bound bond.OtherThread a e f = not (e.thread == f.thread)
+-- there are 32 rows, each as above
+pub record Bonded (answers : ℕ → Event → Event → Bool → Type 0) (run : Run) (rows : List ℕ) : Type 0 where
+  pub long : length rows ≡ 32
+  pub each : (a : ℕ) → a < 32 → RowOf answers run a (slice_index rows a)

@@ -4,10 +4,10 @@ ghost use Rattle.relation.specs.Values.{Means};
 ghost use Rattle.given.specs.Bases.{base_meaning, BaseOf};
 ghost use Rattle.given.specs.Orders.{no_order, Reordered};
 
-use super::bond::{Bond, pairs_of};
-use super::class::{Class, events_of};
+use super::bond;
 use relation::{Relation, Value};
 use run::Snapshot;
+use run::event::{BRANCH, FENCE};
 use term::Given;
 
 /// The predefined sets and relations of a run, and the coherence order under trial.
@@ -34,18 +34,18 @@ impl Base {
         ensures { BaseOf (table_run events.now.events) no_order result }
     {
         Base {
-            universe: events_of(events, Class::Standing),
-            reads: events_of(events, Class::Read),
-            writes: events_of(events, Class::Write),
-            fences: events_of(events, Class::Fence),
-            branches: events_of(events, Class::Branch),
-            memory: events_of(events, Class::Memory),
-            initial: events_of(events, Class::Initial),
-            settled: events_of(events, Class::Settled),
-            program_order: pairs_of(events, Bond::ProgramOrder),
-            reads_from: pairs_of(events, Bond::ReadsFrom),
-            same_location: pairs_of(events, Bond::SameLocation),
-            other_thread: pairs_of(events, Bond::OtherThread),
+            universe: events.gather(|_| true),
+            reads: events.gather(|event| event.is_read()),
+            writes: events.gather(|event| event.is_write()),
+            fences: events.gather(|event| event.kind == FENCE),
+            branches: events.gather(|event| event.kind == BRANCH),
+            memory: events.gather(|event| event.is_memory()),
+            initial: events.gather(|event| event.is_initial()),
+            settled: events.gather(|event| event.is_write() && event.settled),
+            program_order: bond::program_order(events),
+            reads_from: bond::reads_from(events),
+            same_location: bond::same_location(events),
+            other_thread: bond::other_thread(events),
             coherence: Relation::none(),
         }
     }

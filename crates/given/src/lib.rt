@@ -3,7 +3,5 @@
 
 pub mod base;
 mod bond;
-mod class;
-mod mask;
 
 pub use base::Base;
