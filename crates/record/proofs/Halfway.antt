@@ -8,9 +8,8 @@ use Rattle.run.specs.Runs.{Run, Stands}
 use Rattle.bench.specs.Steps.{put}
 use Rattle.bench.proofs.Stays.{put_here, put_there}
 use Rattle.bench.proofs.Marks.{Alike}
-use Rattle.record.specs.declared.stage.Stage.{Stage}
-use Rattle.record.specs.declared.stage.Stage.TheVariants.{Entries, Ties, Settlings}
 use Rattle.record.specs.RoundTrip.{Confined}
+use Rattle.record.specs.Writing.{Stage, Entries, Ties, Settlings}
 
 -- the event's fields with other marks
 abbrev pub marked : Event → Option ℕ → Bool → Event

@@ -1,6 +1,4 @@
-pub mod Begins
-pub mod Turns
-pub mod Pieces
+pub mod Found
 pub mod Verdicts
 pub mod Walks
 pub mod Splits

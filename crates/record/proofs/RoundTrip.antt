@@ -2,10 +2,8 @@
 use Rattle.std.proofs.Common.{sym, refl, subst₂, arith}
 use Rattle.run.specs.Runs.{Run, nothing}
 use Rattle.bench.specs.Keeps.{Orderly}
-use Rattle.record.specs.declared.stage.Stage.{Stage}
-use Rattle.record.specs.declared.stage.Stage.TheVariants.{Entries, Ties, Settlings}
 use Rattle.record.specs.RoundTrip.{Confined, RoundTrip}
-use Rattle.record.specs.Writing.{calls_below, written}
+use Rattle.record.specs.Writing.{Stage, Entries, Ties, Settlings, calls_below, written}
 use Rattle.record.proofs.Short.{record_short}
 use Rattle.record.proofs.Leads.{Leads, leads_on}
 use Rattle.record.proofs.Halfway.{begun, done, halfway_none, halfway_all}

@@ -3,10 +3,8 @@ use Rattle.std.proofs.Common.{ℕ, zero, suc, ◌+◌, ◌*◌, ◌≤◌, List,
 use Rattle.bench.specs.declared.action.Action.{Action}
 use Rattle.bench.specs.declared.action.Action.TheVariants.{Enter, Tie, Settle}
 use Rattle.run.specs.Runs.{Run}
-use Rattle.record.specs.declared.stage.Stage.{Stage}
-use Rattle.record.specs.declared.stage.Stage.TheVariants.{Entries, Ties, Settlings}
 use Rattle.record.specs.Format.{spell, spelled, end}
-use Rattle.record.specs.Writing.{call_of, also, calls_below, written, record_bytes}
+use Rattle.record.specs.Writing.{Stage, Entries, Ties, Settlings, call_of, also, calls_below, written, record_bytes}
 
 -- a call's field has at most 12 bytes
 pub spell_short : (a : Action) → length (spell a) ≤ 12

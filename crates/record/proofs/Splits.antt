@@ -1,5 +1,5 @@
--- Bytes are a record of calls or misshapen somewhere, and calls are accepted or one of them is refused. Assumes nothing.
-use Rattle.std.proofs.Common.{◌≡◌, ℕ, zero, suc, ◌+◌, ◌≤◌, ◌⊎◌, List, [], ◌∷◌, ◌++◌, length, drop, Some, None, Err, Option, sym, refl, ap, ◌∙◌, inl, inr, append_assoc, arith, length-append, length-drop}
+-- Bytes are the fields of calls and a rest in which none begins, and calls are accepted or one of them is refused. Assumes nothing.
+use Rattle.std.proofs.Common.{◌≡◌, ℕ, zero, suc, ◌+◌, ◌≤◌, ◌⊎◌, List, [], ◌∷◌, ◌++◌, length, drop, Some, None, Err, Option, sym, refl, ap, ◌∙◌, inl, inr, append_assoc, arith, length-drop}
 use Rattle.std.proofs.lemmas.List.{get_or-drop}
 use Rattle.bench.specs.declared.action.Action.{Action}
 use Rattle.bench.specs.declared.fault.BenchFault.{BenchFault}
@@ -8,70 +8,34 @@ use Rattle.run.specs.Runs.{Run}
 use Rattle.bench.specs.Steps.{taken, led}
 use Rattle.bench.specs.Tests.{refusal, answer}
 use Rattle.bench.proofs.Refused.{answered}
-use Rattle.record.specs.declared.piece.Piece.{Piece}
-use Rattle.record.specs.declared.piece.Piece.TheVariants.{Call, End, Wrong}
-use Rattle.record.specs.Format.{Bytes, spell, spelled, end, Spells}
-use Rattle.record.specs.Reading.{piece_of}
-use Rattle.record.specs.Readings.{Misfit, Misshapen, Accepted}
-use Rattle.record.proofs.Pieces.{spell_long, Begins, begins}
+use Rattle.record.specs.Format.{Bytes, spell, spelled}
+use Rattle.record.specs.Reading.{call_at}
+use Rattle.record.specs.Readings.{Accepted}
+use Rattle.record.proofs.Found.{spell_long, Begins, begins}
+use Rattle.record.proofs.Walks.{none_left}
 
 -- what is left of bytes is bytes
 pub bytes_drop : (n : ℕ) (bytes : List ℕ) → Bytes bytes → Bytes (drop n bytes)
 bytes_drop n bytes h = λ k. rw (get_or-drop n bytes k 0) (h (n + k))
 
--- no field begins where no byte is left
-nothing_left : (rest : List ℕ) → length rest ≤ 0 → Misfit rest
-nothing_left rest h =
-    record {
-      field = λ a more e. omega (arith, spell_long a, ap length e ∙ length-append (spell a) more);
-      ended = λ more e. omega (arith, ap length e);
-    }
-
--- what is wrong behind the fields of calls, told by its place
-abbrev pub FaultBehind : List Action → List ℕ → ℕ → Type 0
-FaultBehind calls rest place =
-    (Misfit rest × (place ≡ length (spelled calls))) ⊎ ((b : ℕ) × (more : List ℕ) × (rest ≡ end ++ (b ∷ more)) × (place ≡ length (spelled calls) + 3))
-
--- bytes are the fields of calls and the end, or misshapen
-abbrev pub Split : List ℕ → Type 0
-Split rest = ((calls : List Action) × Spells rest calls) ⊎ ((place : ℕ) × Misshapen rest place)
-
--- a misfit at the beginning
-split_wrong : (rest : List ℕ) → Misfit rest → Split rest
-split_wrong rest m = inr (0, record { calls = []; rest = rest; splits = refl; fault = inl (m, refl) })
-
--- the end at the beginning
-split_end : (rest more : List ℕ) → rest ≡ end ++ more → Split rest
-split_end rest [] e = inl ([], e)
-split_end rest (b ∷ more) e = inr (3, record { calls = []; rest = rest; splits = refl; fault = inr (b, more, e, refl) })
-
--- a misshapen rest behind a call's field
-misshapen_behind : (a : Action) (rest more : List ℕ) (place : ℕ) → rest ≡ spell a ++ more → Misshapen more place → Misshapen rest (length (spell a) + place)
-misshapen_behind a rest more place e m =
-    record { calls = a ∷ m.calls; rest = m.rest; splits = e ∙ ap (λ l. spell a ++ l) m.splits ∙ sym (append_assoc (spell a) (spelled m.calls) m.rest); fault = shifted m.fault }
-  where
-    long : length (spell a ++ spelled m.calls) ≡ length (spell a) + length (spelled m.calls)
-    long = length-append (spell a) (spelled m.calls)
-
-    shifted : FaultBehind m.calls m.rest place → FaultBehind (a ∷ m.calls) m.rest (length (spell a) + place)
-    shifted (inl h) = inl (h.0, omega (arith, long, h.1))
-    shifted (inr h) = inr (h.0, h.1, h.2, omega (arith, long, h.3))
-
--- a call's field at the beginning
-split_call : (a : Action) (rest more : List ℕ) → rest ≡ spell a ++ more → Split more → Split rest
-split_call a rest more e (inl s) = inl (a ∷ s.0, e ∙ ap (λ l. spell a ++ l) s.1 ∙ sym (append_assoc (spell a) (spelled s.0) end))
-split_call a rest more e (inr m) = inr (length (spell a) + m.0, misshapen_behind a rest more m.0 e m.1)
+-- the fields of calls, and a rest in which none begins
+pub record Split (bytes : List ℕ) : Type 0 where
+  pub calls : List Action
+  pub rest : List ℕ
+  pub splits : bytes ≡ spelled calls ++ rest
+  pub none : call_at rest ≡ None
 
 -- bytes split, with a turn for each of them
-pub split : (turns : ℕ) (rest : List ℕ) → Bytes rest → length rest ≤ turns → Split rest
-split zero rest bytes h = split_wrong rest (nothing_left rest h)
-split (suc turns) rest bytes h = go (split turns) (piece_of rest) (begins rest bytes)
+pub split : (turns : ℕ) (bytes : List ℕ) → Bytes bytes → length bytes ≤ turns → Split bytes
+split zero bytes h l = record { calls = []; rest = bytes; splits = refl; none = none_left bytes l }
+split (suc turns) bytes h l = go (split turns) (call_at bytes) refl (begins bytes h)
   where
-    go : ((more : List ℕ) → Bytes more → length more ≤ turns → Split more) → (p : Piece) → Begins rest p → Split rest
-    go on (Call a n) b =
-        split_call a rest (drop n rest) b.0 (on (drop n rest) (bytes_drop n rest bytes) (omega (arith, length-drop n rest, b.1, spell_long a)))
-    go on End b = split_end rest (drop 3 rest) b
-    go on Wrong b = split_wrong rest b
+    go : ((more : List ℕ) → Bytes more → length more ≤ turns → Split more) → (o : Option Action) → call_at bytes ≡ o → Begins bytes o → Split bytes
+    go on None e b = record { calls = []; rest = bytes; splits = refl; none = e }
+    go on (Some a) e b =
+        let n = length (spell a) in
+        let s = on (drop n bytes) (bytes_drop n bytes h) (omega (arith, length-drop n bytes, spell_long a)) in
+        record { calls = a ∷ s.calls; rest = s.rest; splits = b ∙ ap (λ l. spell a ++ l) s.splits ∙ sym (append_assoc (spell a) (spelled s.calls) s.rest); none = s.none }
 
 -- the first call that is refused, from a run on
 pub record Stops (run : Run) (calls : List Action) : Type 0 where

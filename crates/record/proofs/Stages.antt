@@ -9,9 +9,7 @@ use Rattle.bench.specs.Keeps.{Orderly}
 use Rattle.bench.specs.Steps.{sourced, final}
 use Rattle.bench.proofs.Stays.{Open}
 use Rattle.bench.proofs.Marks.{Alike, alike_flip, write_along}
-use Rattle.record.specs.declared.stage.Stage.{Stage}
-use Rattle.record.specs.declared.stage.Stage.TheVariants.{Entries, Ties, Settlings}
-use Rattle.record.specs.Writing.{entering, tying, settling, call_of, calls_below}
+use Rattle.record.specs.Writing.{Stage, Entries, Ties, Settlings, entering, tying, settling, call_of, calls_below}
 use Rattle.record.proofs.Leads.{Leads, Makes, leads_also}
 use Rattle.record.proofs.Halfway.{bare, tied, halfway, halfway_below, halfway_from, halfway_part, unsettled_part, next_put, next_same}
 

@@ -1,47 +1,42 @@
 -- A record written stage by stage. Assumes nothing.
-use Rattle.std.proofs.Common.{◌≡◌, ℕ, ◌+◌, ◌≤◌, List, ◌++◌, length, drop, None, Ok, Option, sym, ap, ◌∙◌, subst, arith, length-append}
+use Rattle.std.proofs.Common.{◌≡◌, ℕ, ◌+◌, ◌<◌, List, ◌++◌, length, take, drop, get_or, sum_by, None, Ok, Option, sym, ap, ◌∙◌, subst, arith, length-append}
+use Rattle.std.specs.List.{flat_map}
 use Rattle.std.proofs.lemmas.List.{get_or_past}
+use Rattle.std.proofs.lemmas.List.Concat.{length-flat_map}
 use Rattle.bench.specs.declared.action.Action.{Action}
 use Rattle.run.specs.declared.event.Event.{Event}
 use Rattle.bench.specs.Keeps.{Orderly}
 use Rattle.run.specs.Runs.{Run}
 use Rattle.run.specs.Tests.{table_run}
-use Rattle.record.specs.declared.stage.Stage.{Stage}
-use Rattle.record.specs.declared.stage.Stage.TheVariants.{Entries, Ties, Settlings}
 use Rattle.record.specs.Format.{end}
 use Rattle.record.specs.RoundTrip.{Confined, ReadsBack}
-use Rattle.record.specs.Writing.{call_of, call_bytes, stage_bytes, record_bytes, pasted, Placed, Wrote}
-use Rattle.record.proofs.Fields.{stage_more, record_joins}
+use Rattle.record.specs.Writing.{record_bytes, call_bytes, pasted, Placed, Wrote}
+use Rattle.record.proofs.Fields.{fields_more}
 use Rattle.record.proofs.Pastes.{placed_on, pasted_first}
 use Rattle.record.proofs.RoundTrip.{round_trip}
 
--- the field of one number more behind those of a stage
-pub placed_field : (stage : Stage) (run : Run) (n : ℕ) (before : List ℕ) (from at : ℕ) (mid : List ℕ) (c : Option Action) (next : ℕ) (after : List ℕ) → from ≤ length before →
-    c ≡ call_of stage n (run n) → Placed before from (stage_bytes stage run n) at mid → Placed mid at (call_bytes c) next after → Placed before from (stage_bytes stage run (n + 1)) next after
-placed_field stage run n before from at mid c next after within is p q =
-    rw (stage_more stage run n, ← is) (placed_on before from (stage_bytes stage run n) at mid (call_bytes c) next after within p q)
+-- the fields of the calls and the end are the record of the run that the table shows
+pub record_of : (events : List (Option Event)) (run : Run) (stages : List (List (Option Action))) (calls : List (Option Action)) → calls ≡ flat_map (λ stage. stage) stages →
+    flat_map call_bytes (flat_map (λ stage. stage) stages) ++ end ≡ record_bytes (table_run events) → table_run events ≡ run → flat_map call_bytes calls ++ end ≡ record_bytes run
+record_of events run stages calls all is same = ap (λ l. flat_map call_bytes l ++ end) all ∙ is ∙ ap record_bytes same
 
--- how many bytes a record has
-pub record_length : (run : Run) → length (stage_bytes Entries run 32) + (length (stage_bytes Ties run 32) + length (stage_bytes Settlings run 32)) + 3 ≡ length (record_bytes run)
-record_length run =
-    let entries = stage_bytes Entries run 32 in
-    let ties = stage_bytes Ties run 32 in
-    let settlings = stage_bytes Settlings run 32 in
-    omega (arith, ap length (record_joins run), length-append ((entries ++ ties) ++ settlings) end, length-append (entries ++ ties) settlings, length-append entries ties)
+-- so many bytes it has
+pub record_size : (run : Run) (calls : List (Option Action)) (size : ℕ) → flat_map call_bytes calls ++ end ≡ record_bytes run → size ≡ sum_by (λ call. length (call_bytes call)) calls → size + 3 ≡ length (record_bytes run)
+record_size run calls size is sum = omega (arith, length-flat_map call_bytes calls, length-append (flat_map call_bytes calls) end, ap length is, sum)
 
--- the three stages and the end from the start on are the record
-pub wrote_all : (run : Run) (before : List ℕ) (at : ℕ) (entered : List ℕ) (past : ℕ) (tied : List ℕ) (last : ℕ) (settled : List ℕ) (next : ℕ) (after : List ℕ) →
-    Placed before 0 (stage_bytes Entries run 32) at entered → Placed entered at (stage_bytes Ties run 32) past tied → Placed tied past (stage_bytes Settlings run 32) last settled →
-    Placed settled last end next after → Wrote run before after (Ok next)
-wrote_all run before at entered past tied last settled next after p q r s =
-    let entries = stage_bytes Entries run 32 in
-    let ties = stage_bytes Ties run 32 in
-    let settlings = stage_bytes Settlings run 32 in
-    let two = placed_on before 0 entries at entered ties past tied (omega arith) p q in
-    let three = placed_on before 0 (entries ++ ties) past tied settlings last settled (omega arith) two r in
-    let all = placed_on before 0 ((entries ++ ties) ++ settlings) last settled end next after (omega arith) three s in
-    let long : next ≡ length (record_bytes run) = omega (arith, all.behind, ap length (record_joins run)) in
-    (long, all.stands ∙ ap (pasted before 0) (record_joins run) ∙ pasted_first before (record_bytes run) ∙ ap (λ n. record_bytes run ++ drop n before) (sym long))
+-- one field more behind those of the first calls
+pub placed_more : (before mid after : List ℕ) (calls : List (Option Action)) (i at next : ℕ) → i < length calls → Placed before 0 (flat_map call_bytes (take i calls)) at mid →
+    Placed mid at (call_bytes (get_or calls i None)) next after → Placed before 0 (flat_map call_bytes (take (i + 1) calls)) next after
+placed_more before mid after calls i at next within p q =
+    rw (fields_more calls i within) (placed_on before 0 (flat_map call_bytes (take i calls)) at mid (call_bytes (get_or calls i None)) next after (omega arith) p q)
+
+-- the fields of the calls and the end from the start on are the record
+pub wrote_all : (run : Run) (fields before : List ℕ) (at : ℕ) (called : List ℕ) (next : ℕ) (after : List ℕ) → fields ++ end ≡ record_bytes run →
+    Placed before 0 fields at called → Placed called at end next after → Wrote run before after (Ok next)
+wrote_all run fields before at called next after is p q =
+    let all = placed_on before 0 fields at called end next after (omega arith) p q in
+    let long : next ≡ length (record_bytes run) = omega (arith, all.behind, ap length is) in
+    (long, all.stands ∙ ap (pasted before 0) is ∙ pasted_first before (record_bytes run) ∙ ap (λ n. record_bytes run ++ drop n before) (sym long))
 
 -- a table of 32 answers holds nothing above 31
 table_confined : (events : List (Option Event)) → length events ≡ 32 → Confined (table_run events)

@@ -1,5 +1,5 @@
 -- Reading a record, as the code does it. proofs/ ties it to what the bytes spell. Assumes nothing.
-use Rattle.std.specs.Prelude.{ℕ, zero, suc, ◌+◌, ◌*◌, Bool, cond, ◌&&◌, List, length, drop, Some, None, Option, ◌==◌, nat_le, nat_lt, slice_index}
+use Rattle.std.specs.Prelude.{ℕ, zero, suc, ◌+◌, ◌*◌, Bool, cond, ◌&&◌, List, [], ◌∷◌, length, drop, sum_by, Some, None, Ok, Err, Option, Result, ◌==◌, nat_le, nat_lt, slice_index}
 use Rattle.std.specs.Option.{option_or}
 use Rattle.refusal.specs.declared.Refusal.{Refusal}
 use Rattle.refusal.specs.declared.Part.TheVariants.{Record, Writer}
@@ -11,9 +11,7 @@ use Rattle.bench.specs.Steps.{taken}
 use Rattle.bench.specs.Tests.{refusal}
 use Rattle.record.specs.declared.fault.RecordFault.{RecordFault}
 use Rattle.record.specs.declared.fault.RecordFault.TheVariants.{TooLong, Shape, Call}
-use Rattle.record.specs.declared.piece.Piece.{Piece}
-use Rattle.record.specs.declared.piece.Piece.TheVariants.{End, Wrong}
-use Rattle.record.specs.declared.piece.Piece.TheVariants as piece
+use Rattle.record.specs.Format.{spell}
 
 -- each fault of the reader as it is told
 abbrev pub record_refusal : RecordFault → Refusal
@@ -42,44 +40,61 @@ entry_at rest =
       value = slice_index rest 8 * 16777216 + (slice_index rest 9 * 65536 + (slice_index rest 10 * 256 + slice_index rest 11));
     })
 
--- what stands at the beginning of the rest of a record
-unfoldable pub piece_of : List ℕ → Piece
-piece_of rest =
-    cond (headed rest 1 9) (piece.Call (entry_at rest) 12)
-    (cond (headed rest 2 2) (piece.Call (Tie (slice_index rest 3) (slice_index rest 4)) 5)
-    (cond (headed rest 3 1) (piece.Call (Settle (slice_index rest 3)) 4) (cond (headed rest 0 0) End Wrong)))
+-- the call whose whole field begins the rest of a record, if one does
+unfoldable pub call_at : List ℕ → Option Action
+call_at rest =
+    cond (headed rest 1 9) (Some (entry_at rest))
+    (cond (headed rest 2 2) (Some (Tie (slice_index rest 3) (slice_index rest 4)))
+    (cond (headed rest 3 1) (Some (Settle (slice_index rest 3))) None))
 
--- goes on behind a call's field, or ends with an answer
-abbrev pub onward : {A : Type 0} → Piece → (Action → ℕ → A) → A → A → A
-onward (piece.Call a n) next ended wrong = next a n
-onward End next ended wrong = ended
-onward Wrong next ended wrong = wrong
+-- goes on with the call that was found, or ends
+abbrev pub onward : {A : Type 0} → Option Action → (Action → A) → A → A
+onward (Some a) next ended = next a
+onward None next ended = ended
+
+-- the calls whose fields stand one behind another in the rest that begins at a place, each with its place
+unfoldable pub placed_calls : ℕ → ℕ → List ℕ → List (ℕ × Action)
+placed_calls zero at rest = []
+placed_calls (suc turns) at rest = onward (call_at rest) (λ a. (at, a) ∷ placed_calls turns (at + length (spell a)) (drop (length (spell a)) rest)) []
+
+-- those from a place of a record on
+abbrev pub calls_from : ℕ → List ℕ → List (ℕ × Action)
+calls_from at bytes = placed_calls (length (drop at bytes)) at (drop at bytes)
+
+-- the calls of a record
+abbrev pub calls_of : List ℕ → List (ℕ × Action)
+calls_of bytes = calls_from 0 bytes
+
+-- the place behind the fields of calls
+abbrev pub behind : List (ℕ × Action) → ℕ
+behind calls = sum_by (λ (c : ℕ × Action). length (spell c.1)) calls
+
+-- what is wrong with the rest behind the calls, which begins at a place: it is not the end, or bytes stand behind that
+abbrev pub unended : ℕ → List ℕ → Option ℕ
+unended at rest = cond (headed rest 0 0) (cond (length rest == 3) None (Some (at + 3))) (Some at)
+
+-- the place of the first field that is cut, wrong, missing or past the end
+abbrev pub misfit : List ℕ → Option ℕ
+misfit bytes = unended (behind (calls_of bytes)) (drop (behind (calls_of bytes)) bytes)
 
 -- goes on where the call is a step, or ends with an answer
 abbrev pub unless : {A : Type 0} → Option BenchFault → A → (BenchFault → A) → A
 unless None next stopped = next
 unless (Some f) next stopped = stopped f
 
--- the place of the first field that is cut, wrong, missing or past the end, in the rest that begins at a place
-unfoldable pub misfit : ℕ → ℕ → List ℕ → Option ℕ
-misfit zero at rest = Some at
-misfit (suc turns) at rest =
-    onward (piece_of rest) (λ a n. misfit turns (at + n) (drop n rest)) (cond (length rest == 3) None (Some (at + 3))) (Some at)
-
 -- the first field whose call is refused
-unfoldable pub call_fault : ℕ → ℕ → Run → List ℕ → Option RecordFault
-call_fault zero at run rest = None
-call_fault (suc turns) at run rest =
-    onward (piece_of rest) (λ a n. unless (refusal run a) (call_fault turns (at + n) (taken run a) (drop n rest)) (λ f. Some (Call at f))) None None
+abbrev pub call_fault : Run → List (ℕ × Action) → Option RecordFault
+call_fault run [] = None
+call_fault run (c ∷ more) = unless (refusal run c.1) (call_fault (taken run c.1) more) (λ f. Some (Call c.0 f))
 
 -- the run that the calls lead to, up to the first that is refused
-unfoldable pub reached : ℕ → Run → List ℕ → Run
-reached zero run rest = run
-reached (suc turns) run rest = onward (piece_of rest) (λ a n. unless (refusal run a) (reached turns (taken run a) (drop n rest)) (λ f. run)) run run
+abbrev pub reached : Run → List (ℕ × Action) → Run
+reached run [] = run
+reached run (c ∷ more) = unless (refusal run c.1) (reached (taken run c.1) more) (λ f. run)
 
 -- the run of a record's bytes
 abbrev pub record_run : List ℕ → Run
-record_run bytes = reached (length bytes) nothing bytes
+record_run bytes = reached nothing (calls_of bytes)
 
 -- the place of a misfit as a fault
 abbrev pub shape_fault : Option ℕ → Option RecordFault
@@ -88,6 +103,9 @@ shape_fault (Some place) = Some (Shape place)
 
 -- the first listed fault of a record
 abbrev pub read_fault : List ℕ → Option RecordFault
-read_fault bytes =
-    cond (nat_lt 4096 (length bytes)) (Some TooLong)
-    (option_or (shape_fault (misfit (length bytes) 0 bytes)) (call_fault (length bytes) 0 nothing bytes))
+read_fault bytes = cond (nat_lt 4096 (length bytes)) (Some TooLong) (option_or (shape_fault (misfit bytes)) (call_fault nothing (calls_of bytes)))
+
+-- a fault, if there is one, as the answer of a check
+abbrev pub checked : Option RecordFault → Result (Unit {0}) RecordFault
+checked None = Ok tt
+checked (Some f) = Err f

@@ -1,13 +1,11 @@
 -- Writing a bench as a record. Assumes nothing.
-use Rattle.std.specs.Prelude.{◌≡◌, ℕ, zero, suc, ◌+◌, ◌<◌, Bool, true, false, List, [], ◌∷◌, ◌++◌, length, take, drop, Some, None, Ok, Err, Option, Result}
+use Rattle.std.specs.Prelude.{◌≡◌, ℕ, zero, suc, ◌+◌, ◌<◌, Bool, true, false, List, [], ◌∷◌, ◌++◌, length, take, drop, slice_index_or, Some, None, Ok, Err, Option, Result}
 use Rattle.run.specs.declared.event.Event.{Event}
 use Rattle.bench.specs.declared.action.Action.{Action}
 use Rattle.bench.specs.declared.action.Action.TheVariants.{Enter, Tie, Settle}
 use Rattle.run.specs.Runs.{Run}
 use Rattle.record.specs.Format.{spell, spelled, end}
 use Rattle.record.specs.declared.fault.WriteFault.{WriteFault}
-use Rattle.record.specs.declared.stage.Stage.{Stage}
-use Rattle.record.specs.declared.stage.Stage.TheVariants.{Entries, Ties, Settlings}
 
 -- the call that enters an event
 abbrev pub entering : ℕ → Event → Action
@@ -22,6 +20,12 @@ tying n (Some w) = Some (Tie n w)
 abbrev pub settling : ℕ → Bool → Option Action
 settling n false = None
 settling n true = Some (Settle n)
+
+-- the stages in which a run is written: what each writes, by event number
+pub data Stage : Type 0 where
+  Entries : Stage
+  Ties : Stage
+  Settlings : Stage
 
 -- the call of a stage for the event at a number
 abbrev pub call_of : Stage → ℕ → Option Event → Option Action
@@ -54,6 +58,15 @@ record_bytes run = spelled (written run) ++ end
 abbrev pub call_bytes : Option Action → List ℕ
 call_bytes None = []
 call_bytes (Some a) = spell a
+
+-- what is made of what stands at a number: nothing of nothing, and of an event what is given for it
+abbrev pub Made : (ℕ → Event → Option Action → Type 0) → ℕ → Option Event → Option Action → Type 0
+Made gives n None call = call ≡ None
+Made gives n (Some e) call = gives n e call
+
+-- so at each number of a run
+abbrev pub MadeOf : (ℕ → Event → Option Action → Type 0) → Run → List (Option Action) → Type 0
+MadeOf gives run calls = (n : ℕ) → n < 32 → Made gives n (run n) (slice_index_or calls n None)
 
 -- the fields of a stage for the events below a number
 abbrev pub stage_bytes : Stage → Run → ℕ → List ℕ

@@ -24,7 +24,7 @@ impl RecordFault {
         let (number, place) = match self {
             RecordFault::TooLong => (20, 0),
             RecordFault::Shape { place } => (21, place),
-            RecordFault::Call { place, fault: _ } => (22, place),
+            RecordFault::Call { place, .. } => (22, place),
         };
         Refusal {
             number,

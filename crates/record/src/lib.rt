@@ -1,10 +1,10 @@
 //! Records: the bytes of a run, their reader and their writer.
 #![tactic(auto)]
 
+pub mod calls;
 pub mod fault;
-pub mod piece;
+pub mod format;
 pub mod read;
-pub mod stage;
 pub mod writer;
 
 pub use fault::{RecordFault, WriteFault};

@@ -1,66 +1,52 @@
 //! Reading a record: first the shape of every field, then the calls.
-ghost use Rattle.std.specs.Prelude.{◌≡◌, ◌+◌, ◌≤◌, length, drop, IfOk, Some, None, MatchResult};
-ghost use Rattle.record.specs.Reading.{piece_of, misfit, call_fault, reached, record_run, shape_fault, read_fault};
+ghost use Rattle.std.specs.Prelude.{◌≡◌, ◌≤◌, length, IfOk, None, MatchResult};
+ghost use Rattle.record.specs.Reading.{calls_of, behind, misfit, call_fault, reached, record_run, shape_fault, read_fault, checked};
 ghost use Rattle.record.specs.Readings.{Read, Faulty, OneReading, OneRun};
 ghost use Rattle.bench.specs.Benches.{bench_run};
 
+use super::calls::{Calls, size};
 use super::fault::RecordFault;
-use super::piece::{Piece, piece_of};
+use super::format::{END_TAG, HEAD, LONGEST};
 use bench::Bench;
 use run::{Event, RunSource};
 
-/// The rest of a record behind a place.
-fn rest(bytes: &[u8], at: usize) -> &[u8]
-    requires { at ≤ length bytes.now }
-    ensures { result.now ≡ drop at bytes.now }
+/// The place behind the fields of the calls.
+fn behind(bytes: &[u8]) -> usize
+    ensures place { result ≡ behind (calls_of bytes.now) }
+    ensures within { result ≤ length bytes.now }
 {
-    &bytes[at..]
+    Calls::of(bytes).map(|(_, call)| size(call)).sum()
 }
 
-/// The place of the first field that is cut, wrong, missing or past the end.
-fn misfit(bytes: &[u8]) -> Option<usize>
-    ensures { result ≡ misfit (length bytes.now) 0 bytes.now }
+/// Looks at the shape of every field, and refuses the first that is cut, wrong, missing or past the end.
+fn check_shape(bytes: &[u8]) -> Result<(), RecordFault>
+    ensures { result ≡ checked (shape_fault (misfit bytes.now)) }
 {
-    let mut at = 0;
-    for _turn in 0..bytes.len() {
-        match piece_of(rest(bytes, at)) {
-            Piece::Call(_, length) => at += length,
-            Piece::End => {
-                return if bytes.len() - at == 3 {
-                    None
-                } else {
-                    Some(at + 3)
-                };
-            }
-            Piece::Wrong => return Some(at),
-        }
+    let place = behind(bytes);
+    match &bytes[place..] {
+        [END_TAG, 0, 0] => Ok(()),
+        [END_TAG, 0, 0, ..] => Err(RecordFault::Shape {
+            place: place + HEAD,
+        }),
+        _ => Err(RecordFault::Shape { place }),
     }
-    Some(at)
 }
 
 /// Makes the calls of a record on a bench, up to the first that is refused.
-fn replay(bytes: &[u8], bench: &mut Bench) -> Option<RecordFault>
-    ensures fault { result ≡ call_fault (length bytes.now) 0 (bench_run bench.old) bytes.now }
-    ensures run { bench_run bench.new ≡ reached (length bytes.now) (bench_run bench.old) bytes.now }
+fn replay(bytes: &[u8], bench: &mut Bench) -> Result<(), RecordFault>
+    ensures fault { result ≡ checked (call_fault (bench_run bench.old) (calls_of bytes.now)) }
+    ensures run { bench_run bench.new ≡ reached (bench_run bench.old) (calls_of bytes.now) }
 {
-    let mut at = 0;
-    for _turn in 0..bytes.len() {
-        match piece_of(rest(bytes, at)) {
-            Piece::Call(action, length) => {
-                if let Err(fault) = bench.act(action) {
-                    return Some(RecordFault::Call { place: at, fault });
-                }
-                at += length;
-            }
-            Piece::End => return None,
-            Piece::Wrong => return None,
+    for (place, call) in Calls::of(bytes) {
+        if let Err(fault) = bench.act(call) {
+            return Err(RecordFault::Call { place, fault });
         }
     }
-    None
+    Ok(())
 }
 
 /// A record that was read: its bytes, borrowed. It shows the run of a new bench after its calls.
-#[derive(Clone, Copy)]
+#[derive(Clone, Copy, PartialEq, Eq, Debug)]
 pub struct Record<'a> {
     bytes: &'a [u8],
 }
@@ -76,18 +62,15 @@ impl<'a> RunSource for Record<'a> {
     }
 }
 
-/// The first listed fault of a record, if it has one.
-fn fault(bytes: &[u8]) -> Option<RecordFault>
-    ensures { result ≡ read_fault bytes.now }
+/// Refuses bytes that are no record with their first listed fault.
+fn check(bytes: &[u8]) -> Result<(), RecordFault>
+    ensures { result ≡ checked (read_fault bytes.now) }
 {
-    if bytes.len() > 4096 {
-        return Some(RecordFault::TooLong);
+    if bytes.len() > LONGEST {
+        return Err(RecordFault::TooLong);
     }
-    if let Some(place) = misfit(bytes) {
-        return Some(RecordFault::Shape { place });
-    }
-    let mut bench = Bench::new();
-    replay(bytes, &mut bench)
+    check_shape(bytes)?;
+    replay(bytes, &mut Bench::new())
 }
 
 impl<'a> Record<'a> {
@@ -98,9 +81,7 @@ impl<'a> Record<'a> {
         ensures one { OneReading bytes.now × OneRun bytes.now }
         ensures same { IfOk result (λ k. k.bytes.now ≡ bytes.now) }
     {
-        if let Some(fault) = fault(bytes) {
-            return Err(fault);
-        }
+        check(bytes)?;
         Ok(Record { bytes })
     }
 }

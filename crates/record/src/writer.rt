@@ -1,14 +1,17 @@
 //! Writing a bench as a record: its length first, then the calls stage by stage.
-ghost use Rattle.std.specs.Prelude.{◌≡◌, ◌+◌, ◌≤◌, length};
-ghost use Rattle.record.specs.Format.{spell};
+ghost use Rattle.std.specs.Prelude.{◌≡◌, ◌+◌, ◌≤◌, ◌++◌, length, sum_by};
+ghost use Rattle.std.specs.List.{flat_map};
+ghost use Rattle.record.specs.Format.{end};
 ghost use Rattle.record.specs.RoundTrip.{ReadsBack};
-ghost use Rattle.record.specs.Writing.{call_of, call_bytes, stage_bytes, Placed, Wrote};
+ghost use Rattle.record.specs.Writing.{entering, tying, settling, record_bytes, call_bytes, MadeOf, Placed, Wrote};
 ghost use Rattle.bench.specs.Benches.{bench_run};
 ghost use Rattle.run.specs.Tests.{table_run};
-ghost use Rattle.bench.specs.declared.action.Action.TheVariants.{Enter};
 
+use super::calls::size;
 use super::fault::WriteFault;
-use super::stage::Stage;
+use super::format::{
+    END_TAG, EVENT_LENGTH, EVENT_TAG, HEAD, SETTLING_LENGTH, SETTLING_TAG, TIE_LENGTH, TIE_TAG,
+};
 use bench::{Action, Bench, Entry};
 use run::{Event, Snapshot};
 
@@ -22,108 +25,109 @@ fn paste(out: &mut [u8], at: usize, text: &[u8]) -> usize
     next
 }
 
-/// Writes the field of an event, its value high byte first.
-fn put_entry(out: &mut [u8], at: usize, entry: Entry) -> usize
-    requires { at + 12 ≤ length out.old }
-    ensures { Placed out.old at (spell (Enter entry)) result out.new }
-{
-    let v = entry.value;
-    let text = [
-        1,
-        0,
-        9,
-        entry.number,
-        entry.kind,
-        entry.thread,
-        entry.step,
-        entry.location,
-        (v / 16777216) as u8,
-        (v / 65536 % 256) as u8,
-        (v / 256 % 256) as u8,
-        (v % 256) as u8,
-    ];
-    paste(out, at, &text)
-}
-
-/// Writes the field of a call, if there is one.
+/// Writes the field of a call, if there is one; an event's value stands high byte first.
 fn put(out: &mut [u8], at: usize, call: Option<Action>) -> usize
     requires { at + length (call_bytes call) ≤ length out.old }
     ensures { Placed out.old at (call_bytes call) result out.new }
 {
     match call {
         None => at,
-        Some(action) => match action {
-            Action::Enter(entry) => put_entry(out, at, entry),
-            Action::Tie { read, write } => paste(out, at, &[2, 0, 2, read, write]),
-            Action::Settle { number } => paste(out, at, &[3, 0, 1, number]),
-        },
-    }
-}
-
-/// How many bytes the field of a call has, if there is one.
-fn size(call: Option<Action>) -> usize
-    ensures { result ≡ length (call_bytes call) }
-{
-    match call {
-        None => 0,
-        Some(action) => match action {
-            Action::Enter(_) => 12,
-            Action::Tie { read: _, write: _ } => 5,
-            Action::Settle { number: _ } => 4,
-        },
-    }
-}
-
-/// The call of a stage for the event at a number.
-fn call_of(stage: Stage, n: u8, event: Option<Event>) -> Option<Action>
-    ensures { result ≡ call_of stage n event }
-{
-    let event = event?;
-    match stage {
-        Stage::Entries => Some(Action::Enter(Entry {
-            number: n,
-            kind: event.kind,
-            thread: event.thread,
-            step: event.step,
-            location: event.location,
-            value: event.value,
-        })),
-        Stage::Ties => match event.source {
-            None => None,
-            Some(write) => Some(Action::Tie { read: n, write }),
-        },
-        Stage::Settlings => {
-            if event.settled {
-                Some(Action::Settle { number: n })
-            } else {
-                None
-            }
+        Some(Action::Enter(entry)) => {
+            let [a, b, c, d] = entry.value.to_be_bytes();
+            let text = [
+                EVENT_TAG,
+                0,
+                EVENT_LENGTH,
+                entry.number,
+                entry.kind,
+                entry.thread,
+                entry.step,
+                entry.location,
+                a,
+                b,
+                c,
+                d,
+            ];
+            paste(out, at, &text)
+        }
+        Some(Action::Tie { read, write }) => paste(out, at, &[TIE_TAG, 0, TIE_LENGTH, read, write]),
+        Some(Action::Settle { number }) => {
+            paste(out, at, &[SETTLING_TAG, 0, SETTLING_LENGTH, number])
         }
     }
 }
 
-/// How many bytes a stage writes.
-fn stage_size(table: &Snapshot, stage: Stage) -> usize
-    ensures size { result ≡ length (stage_bytes stage (table_run table.now.events) 32) }
-    ensures short { result ≤ 384 }
+/// Writes the fields of calls from the start on, and tells the place behind them.
+fn put_all(out: &mut [u8], calls: &[Option<Action>]) -> usize
+    requires { length (flat_map call_bytes calls.now) ≤ length out.old }
+    ensures { Placed out.old 0 (flat_map call_bytes calls.now) result out.new }
 {
-    let mut total = 0;
-    for n in 0..32u8 {
-        total += size(call_of(stage, n, table.events[n as usize]));
-    }
-    total
-}
-
-/// Writes the calls of a stage from a place on, and tells the place behind them.
-fn write_stage(table: &Snapshot, stage: Stage, out: &mut [u8], from: usize) -> usize
-    requires { from + length (stage_bytes stage (table_run table.now.events) 32) ≤ length out.old }
-    ensures { Placed out.old from (stage_bytes stage (table_run table.now.events) 32) result out.new }
-{
-    let mut at = from;
-    for n in 0..32u8 {
-        at = put(out, at, call_of(stage, n, table.events[n as usize]));
+    let mut at = 0;
+    for call in calls {
+        at = put(out, at, *call);
     }
     at
+}
+
+/// How many bytes the fields of calls have.
+fn size_of_all(calls: &[Option<Action>]) -> usize
+    requires { length calls.now ≤ 96 }
+    ensures { result ≡ sum_by (λ call. length (call_bytes call)) calls.now }
+{
+    calls.iter().map(|call| call.map_or(0, size)).sum()
+}
+
+/// The call that enters an event.
+fn entering(number: u8, event: Event) -> Option<Action>
+    ensures { result ≡ Some (entering number event) }
+{
+    Some(Action::Enter(Entry {
+        number,
+        kind: event.kind,
+        thread: event.thread,
+        step: event.step,
+        location: event.location,
+        value: event.value,
+    }))
+}
+
+/// The call that ties an event, if it has a source.
+fn tying(read: u8, event: Event) -> Option<Action>
+    ensures { result ≡ tying read event.source }
+{
+    event.source.map(|write| Action::Tie { read, write })
+}
+
+/// The call that settles an event, if it is settled.
+fn settling(number: u8, event: Event) -> Option<Action>
+    ensures { result ≡ settling number event.settled }
+{
+    event.settled.then_some(Action::Settle { number })
+}
+
+/// The calls of a stage: what is made of each event, by number.
+fn stage<F: Fn(u8, Event) -> Option<Action>>(table: &Snapshot, call_of: F) -> [Option<Action>; 32]
+    requires { F.IsAlwaysCallable call_of }
+    ensures { MadeOf (F.post call_of) (table_run table.now.events) result }
+{
+    let mut calls = [None; 32];
+    for n in 0..32u8 {
+        if let Some(event) = table.events[n as usize] {
+            calls[n as usize] = call_of(n, event);
+        }
+    }
+    calls
+}
+
+/// The calls of a record, stage by stage.
+fn calls_of(table: &Snapshot) -> [[Option<Action>; 32]; 3]
+    ensures { flat_map call_bytes (flat_map (λ stage. stage) result) ++ end ≡ record_bytes (table_run table.now.events) }
+{
+    [
+        stage(table, entering),
+        stage(table, tying),
+        stage(table, settling),
+    ]
 }
 
 /// Writes a bench as a record: events by number, ties by read, settlings by number, the end. Tells the length; the
@@ -133,15 +137,12 @@ pub fn write(bench: &Bench, out: &mut [u8]) -> Result<usize, WriteFault>
     ensures round_trip { ReadsBack (bench_run bench.now) }
 {
     let table = bench.events();
-    let entries = stage_size(&table, Stage::Entries);
-    let ties = stage_size(&table, Stage::Ties);
-    let settlings = stage_size(&table, Stage::Settlings);
-    let needed = entries + (ties + settlings) + 3;
+    let stages = calls_of(&table);
+    let calls = stages.as_flattened();
+    let needed = size_of_all(calls) + HEAD;
     if out.len() < needed {
         return Err(WriteFault { needed });
     }
-    let entered = write_stage(&table, Stage::Entries, out, 0);
-    let tied = write_stage(&table, Stage::Ties, out, entered);
-    let settled = write_stage(&table, Stage::Settlings, out, tied);
-    Ok(paste(out, settled, &[0, 0, 0]))
+    let end = put_all(out, calls);
+    Ok(paste(out, end, &[END_TAG, 0, 0]))
 }

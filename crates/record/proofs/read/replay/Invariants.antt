@@ -1,6 +1,11 @@
 use Rattle.bench.specs.Benches.{bench_run}
-use Rattle.record.proofs.Turns.{Replaying}
+use Rattle.record.specs.Left.{left}
+use Rattle.record.specs.Reading.{calls_of}
+use Rattle.record.proofs.Walks.{Replaying}
 use Rattle.record.proofs.read.replay.Given as goal
 
-abbrev pub invariant-loop-turn : goal.invariant-loop-turn
-invariant-loop-turn l = Replaying l.bytes (bench_run l.initial.bench) l._turn l.at (bench_run l.bench)
+abbrev pub invariant-loop-place : goal.invariant-loop-place
+invariant-loop-place l =
+    (goal.iterator-loop-place).can_next l.place-iterator
+    × (goal.iterator-loop-place).is_finite l.place-iterator
+    × Replaying (calls_of l.bytes) (bench_run l.initial.bench) (left l.place-iterator) (bench_run l.bench)

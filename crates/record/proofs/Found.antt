@@ -1,13 +1,10 @@
 -- What the reader finds at the beginning of bytes is what is spelled there. Assumes nothing.
-use Rattle.std.proofs.Common.{◌≡◌, ℕ, zero, suc, ◌+◌, ◌*◌, ◌/◌, ◌%◌, ◌<◌, ◌≤◌, true, false, leb, List, [], ◌∷◌, ◌++◌, length, get_or, drop, refl, ap, arith, drop-cons}
+use Rattle.std.proofs.Common.{◌≡◌, ℕ, zero, suc, ◌+◌, ◌*◌, ◌/◌, ◌%◌, ◌<◌, ◌≤◌, ◌≢◌, true, false, leb, List, [], ◌∷◌, ◌++◌, length, get_or, drop, Some, None, Option, zero-le, refl, ap, arith, drop-cons}
 use Rattle.std.proofs.lemmas.Bool.{and_parts, and_from, and_left, and_right, leb-true, eqb-true, le-leb, eq-eqb, ne_eqb, cond_both}
 use Rattle.bench.specs.declared.action.Action.{Action}
 use Rattle.bench.specs.declared.action.Action.TheVariants.{Enter, Tie, Settle}
-use Rattle.record.specs.declared.piece.Piece.{Piece}
-use Rattle.record.specs.declared.piece.Piece.TheVariants.{Call, End, Wrong}
 use Rattle.record.specs.Format.{Bytes, word, spell, end}
-use Rattle.record.specs.Reading.{headed, entry_at, piece_of}
-use Rattle.record.specs.Readings.{Misfit}
+use Rattle.record.specs.Reading.{headed, entry_at, call_at}
 
 -- four bytes spell the number that they make
 pub word_spells : (a b c d : ℕ) → b < 256 → c < 256 → d < 256 → word (a * 16777216 + (b * 65536 + (c * 256 + d))) ≡ a ∷ b ∷ c ∷ d ∷ []
@@ -68,38 +65,55 @@ headed_other : (tag other long : ℕ) (rest : List ℕ) → (tag ≡ other → �
 headed_other tag other long rest h = and_right (leb (3 + long) (suc (length rest))) _ (and_left _ _ (ne_eqb tag other h))
 
 -- where a call is spelled, it is found
-pub piece_spelled : (a : Action) (more : List ℕ) → piece_of (spell a ++ more) ≡ Call a (length (spell a))
-unfolding piece_of
-piece_spelled (Enter x) more =
+pub call_spelled : (a : Action) (more : List ℕ) → call_at (spell a ++ more) ≡ Some a
+unfolding call_at
+call_spelled (Enter x) more =
     let content = x.number ∷ x.kind ∷ x.thread ∷ x.step ∷ x.location ∷ (word x.value ++ more) in
     let h : headed (spell (Enter x) ++ more) 1 9 ≡ true = headed_field 1 9 content (omega arith) in
     rw h
-    (ap (λ v. Call (Enter (record { number = x.number; kind = x.kind; thread = x.thread; step = x.step; location = x.location; value = v })) 12) (word_value x.value))
-piece_spelled (Tie r w) more =
+    (ap (λ v. Some (Enter (record { number = x.number; kind = x.kind; thread = x.thread; step = x.step; location = x.location; value = v }))) (word_value x.value))
+call_spelled (Tie r w) more =
     let k : headed (spell (Tie r w) ++ more) 1 9 ≡ false = headed_other 2 1 9 (0 ∷ 2 ∷ r ∷ w ∷ more) (λ e. omega arith) in
     let h : headed (spell (Tie r w) ++ more) 2 2 ≡ true = headed_field 2 2 (r ∷ w ∷ more) (omega arith) in
     rw (k, h)
-piece_spelled (Settle n) more =
+call_spelled (Settle n) more =
     let k : headed (spell (Settle n) ++ more) 1 9 ≡ false = headed_other 3 1 9 (0 ∷ 1 ∷ n ∷ more) (λ e. omega arith) in
     let l : headed (spell (Settle n) ++ more) 2 2 ≡ false = headed_other 3 2 2 (0 ∷ 1 ∷ n ∷ more) (λ e. omega arith) in
     let h : headed (spell (Settle n) ++ more) 3 1 ≡ true = headed_field 3 1 (n ∷ more) (omega arith) in
     rw (k, l, h)
 
--- where the end is spelled, it is found
-pub piece_end : (more : List ℕ) → piece_of (end ++ more) ≡ End
-unfolding piece_of
-piece_end more =
+-- where the end is spelled, its head is found, and no call
+pub end_headed : (more : List ℕ) → headed (end ++ more) 0 0 ≡ true
+end_headed more = headed_field 0 0 more (omega arith)
+
+pub end_spelled : (more : List ℕ) → call_at (end ++ more) ≡ None
+unfolding call_at
+end_spelled more =
     let k : headed (end ++ more) 1 9 ≡ false = headed_other 0 1 9 (0 ∷ 0 ∷ more) (λ e. omega arith) in
     let l : headed (end ++ more) 2 2 ≡ false = headed_other 0 2 2 (0 ∷ 0 ∷ more) (λ e. omega arith) in
     let m : headed (end ++ more) 3 1 ≡ false = headed_other 0 3 1 (0 ∷ 0 ∷ more) (λ e. omega arith) in
-    let h : headed (end ++ more) 0 0 ≡ true = headed_field 0 0 more (omega arith) in
-    rw (k, l, m, h)
+    rw (k, l, m)
 
--- what it is that a piece begins with
-abbrev pub Begins : List ℕ → Piece → Type 0
-Begins rest (Call a n) = (rest ≡ spell a ++ drop n rest) × (n ≡ length (spell a))
-Begins rest End = rest ≡ end ++ drop 3 rest
-Begins rest Wrong = Misfit rest
+-- how many bytes a call's field takes
+abbrev pub takes : Option Action → ℕ
+takes None = 0
+takes (Some a) = length (spell a)
+
+-- a field that is found lies within the rest
+pub call_within : (rest : List ℕ) → takes (call_at rest) ≤ length rest
+unfolding call_at
+call_within rest =
+    cond_both (headed rest 1 9) _ _ Within (λ h. (headed_parts rest 1 9 h).0) (λ _.
+    cond_both (headed rest 2 2) _ _ Within (λ h. (headed_parts rest 2 2 h).0) (λ _.
+    cond_both (headed rest 3 1) _ _ Within (λ h. (headed_parts rest 3 1 h).0) (λ _. zero-le)))
+  where
+    Within : Option Action → Type 0
+    Within o = takes o ≤ length rest
+
+-- what it means that a call is found, or none
+abbrev pub Begins : List ℕ → Option Action → Type 0
+Begins rest (Some a) = rest ≡ spell a ++ drop (length (spell a)) rest
+Begins rest None = (a : Action) (more : List ℕ) → rest ≢ spell a ++ more
 
 -- so many items begin a list that is long enough
 row_begins : (k : ℕ) (rest : List ℕ) → k ≤ length rest → rest ≡ row k 0 rest ++ drop k rest
@@ -125,26 +139,21 @@ unfolding row
 settle_begins rest h = let p = headed_parts rest 3 1 h in let e = row_begins 4 rest p.0 in cc
 
 -- where the end's head is found, the end begins
-end_begins : (rest : List ℕ) → headed rest 0 0 ≡ true → rest ≡ end ++ drop 3 rest
+pub end_begins : (rest : List ℕ) → headed rest 0 0 ≡ true → rest ≡ end ++ drop 3 rest
 unfolding row
 end_begins rest h = let p = headed_parts rest 0 0 h in let e = row_begins 3 rest p.0 in cc
 
--- where nothing is found, neither a call's field nor the end begins
-wrong_begins : (rest : List ℕ) → piece_of rest ≡ Wrong → Misfit rest
-wrong_begins rest h =
-    record {
-      field = λ a more e. let f = piece_spelled a more in let z : ◌≡◌ {A = ℕ} 0 1 = cc in omega arith;
-      ended = λ more e. let f = piece_end more in let z : ◌≡◌ {A = ℕ} 0 1 = cc in omega arith;
-    }
+-- where none is found, no call's field begins
+pub none_begins : (rest : List ℕ) → call_at rest ≡ None → Begins rest None
+none_begins rest h = λ a more e. let f = call_spelled a more in let z : ◌≡◌ {A = ℕ} 0 1 = cc in omega arith
 
 -- what is found begins there
-pub begins : (rest : List ℕ) → Bytes rest → Begins rest (piece_of rest)
-unfolding piece_of
+pub begins : (rest : List ℕ) → Bytes rest → Begins rest (call_at rest)
+unfolding call_at
 begins rest bytes =
-    cond_both (headed rest 1 9) _ _ So (λ h e. (enter_begins rest bytes h, refl)) (λ _.
-    cond_both (headed rest 2 2) _ _ So (λ h e. (tie_begins rest h, refl)) (λ _.
-    cond_both (headed rest 3 1) _ _ So (λ h e. (settle_begins rest h, refl)) (λ _.
-    cond_both (headed rest 0 0) _ _ So (λ h e. end_begins rest h) (λ _ e. wrong_begins rest e)))) refl
+    cond_both (headed rest 1 9) _ _ So (λ h e. enter_begins rest bytes h) (λ _.
+    cond_both (headed rest 2 2) _ _ So (λ h e. tie_begins rest h) (λ _.
+    cond_both (headed rest 3 1) _ _ So (λ h e. settle_begins rest h) (λ _ e. none_begins rest e))) refl
   where
-    So : Piece → Type 0
-    So p = piece_of rest ≡ p → Begins rest p
+    So : Option Action → Type 0
+    So o = call_at rest ≡ o → Begins rest o
