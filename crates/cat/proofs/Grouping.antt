@@ -29,10 +29,6 @@ Ends es end i next = next + length (spell_more (trees_of (drop i es))) ≡ end
 pub ends_more : (es : List said.Binding) (end i next onward : ℕ) (e : said.Binding) → Ends es end i next → i < length es → e ≡ get_or es i e → onward ≡ next + 3 + length (spell (tree_of e.tree)) → Ends es end (i + 1) onward
 ends_more es end i next onward e h lt is on = let r = ap (λ ts. length (spell_more ts)) (rest_more es i e lt is) in let l = long_more (tree_of e.tree) (trees_of (drop (i + 1) es)) in omega arith
 
--- what is left of the group fits
-pub ends_room : (es : List said.Binding) (end i next : ℕ) (e : said.Binding) → Ends es end i next → i < length es → e ≡ get_or es i e → next + 3 + length (spell (tree_of e.tree)) ≤ end
-ends_room es end i next e h lt is = let r = ap (λ ts. length (spell_more ts)) (rest_more es i e lt is) in let l = long_more (tree_of e.tree) (trees_of (drop (i + 1) es)) in omega arith
-
 pub ends_done : (es : List said.Binding) (end i next : ℕ) → Ends es end i next → length es ≤ i → next ≡ end
 ends_done es end i next h past = let r = ap (λ ts. length (spell_more ts)) (rest_none es i past) in omega arith
 

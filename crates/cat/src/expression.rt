@@ -39,6 +39,7 @@ fn bracketed(heap: Global, bracket: Bracket, token: usize, inside: Term) -> Resu
 
 impl<'a> Scope<'a> {
     /// A leaf at a token.
+    #[tactic(auto, unfolding(crate::specs::Resolving::resolve))]
     fn leaf_term(&self, token: usize, leaf: Leaf) -> Term
         ensures { term_of result ≡ resolve (tokens_of self.now) (bound_of self.now) token (atom leaf) }
     {

@@ -1,23 +1,7 @@
-use Rattle.std.proofs.Common.{◌+◌, vec_items, refl, ap, ◌∙◌, arith}
+use Rattle.std.proofs.Common.{◌+◌, vec_items, ap, ◌∙◌, arith}
 use Rattle.sentence.specs.Exprs.{tree_of}
-use Rattle.cat.proofs.Grouping.{ends_more, ends_room, binds_first, binds_more, binds_done}
+use Rattle.cat.proofs.Grouping.{ends_more, binds_first, binds_more, binds_done}
 use Rattle.cat.proofs.binding.bind_group.Goals as goal
-
-pub loop-said-init : goal.loop-said-init
-loop-said-init c = (let s = c.size.ensures in omega arith, refl)
-
-pub overflow_add-next-in-loop-said : goal.overflow_add-next-in-loop-said
-overflow_add-next-in-loop-said c = omega (arith, ends_room c.args.more.now _ c.loop-said.said-index c.loop-said.next c.said-item.result c.loop-said.invariant.0 c.loop-said-test.true c.said-item.is, c.requires)
-
-pub overflow_add-next-in-loop-said-2 : goal.overflow_add-next-in-loop-said-2
-overflow_add-next-in-loop-said-2 c = omega (arith, ends_room c.args.more.now _ c.loop-said.said-index c.loop-said.next c.said-item.result c.loop-said.invariant.0 c.loop-said-test.true c.said-item.is, c.requires)
-
-pub size-requires-in-loop-said : goal.size-requires-in-loop-said
-size-requires-in-loop-said c = omega (arith, ends_room c.args.more.now _ c.loop-said.said-index c.loop-said.next c.said-item.result c.loop-said.invariant.0 c.loop-said-test.true c.said-item.is, c.requires)
-
-pub overflow_add-next-in-loop-said-3 : goal.overflow_add-next-in-loop-said-3
-overflow_add-next-in-loop-said-3 c =
-    omega (arith, ends_room c.args.more.now _ c.loop-said.said-index c.loop-said.next c.said-item.result c.loop-said.invariant.0 c.loop-said-test.true c.said-item.is, c.requires, c.size-in-loop-said.ensures)
 
 pub loop-said-preserved : goal.loop-said-preserved
 loop-said-preserved c =

@@ -1,25 +1,11 @@
-use Rattle.std.proofs.Common.{map, length, vec_items, subst, ◌∙◌, arith}
+use Rattle.std.proofs.Common.{map, length, vec_items, subst, ◌∙◌}
 use Rattle.sentence.specs.Statements.{statement_of, sentence_of}
 use Rattle.sentence.specs.Trees.{spell_text}
 use Rattle.token.specs.Views.{lexeme_view}
 use Rattle.cat.specs.Placing.{bound_of, StatementPlaced}
 use Rattle.cat.specs.Resolving.{resolved_statements}
-use Rattle.cat.proofs.Stating.{states_first, states_room, states_more, states_done}
+use Rattle.cat.proofs.Stating.{states_more, states_done}
 use Rattle.cat.proofs.statement.statements.Goals as goal
-
-pub loop-said-init : goal.loop-said-init
-loop-said-init c = (
-  c.new-scope.ensures.tokens,
-  states_first (map lexeme_view c.args.lexemes.now) c.args.sentence.now c.deref-said-items.result.now c.from-at.result (bound_of c.new-scope.result) (vec_items c.new-found.result) c.deref-said-items.ensures.value c.from-at.ensures
-      c.new-scope.ensures.bound c.new-found.ensures.items,
-)
-
-pub statement-requires : goal.statement-requires
-statement-requires c =
-    let room = states_room (map lexeme_view c.args.lexemes.now) c.deref-said-items.result.now (resolved_statements (map lexeme_view c.args.lexemes.now) (sentence_of c.args.sentence.now))
-    (length (spell_text (sentence_of c.args.sentence.now))) c.loop-said.said-index c.loop-said.at (bound_of c.loop-said.scope) (vec_items c.loop-said.found) c.said-item.result c.loop-said.invariant.1
-    c.loop-said-test.true c.said-item.is in
-    omega (arith, room, c.requires)
 
 pub loop-said-preserved : goal.loop-said-preserved
 loop-said-preserved c = (

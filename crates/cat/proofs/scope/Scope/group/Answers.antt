@@ -1,7 +1,7 @@
 use Rattle.std.proofs.Common.{[], ◌∷◌, ◌++◌, vec_items, sym, ap, ◌∙◌, arith}
 use Rattle.sentence.specs.Exprs.{tree_of}
 use Rattle.cat.specs.Placing.{tokens_of, bound_of}
-use Rattle.cat.proofs.Grouping.{ends_more, ends_room, ends_done, groups_first, groups_more, groups_done}
+use Rattle.cat.proofs.Grouping.{ends_more, ends_done, groups_first, groups_more, groups_done}
 use Rattle.cat.proofs.scope.Scope.group.Goals as goal
 
 pub loop-said-init : goal.loop-said-init
@@ -13,12 +13,6 @@ loop-said-init c =
           (vec_items c.push-2.new.self) c.in_ok-head.head.item (slice ∙ c.new-before.ensures.items) (c.in_ok-push.ensures.items ∙ ap (λ x. x ++ (c.args.at ∷ [])) (sym slice)) c.new-found.ensures.items
           c.in_ok-push-2.ensures.items head.binding head.next,
     )
-
-pub overflow_add-next : goal.overflow_add-next
-overflow_add-next c = omega (arith, ends_room c.args.more.now _ c.loop-said.said-index c.loop-said.next c.said-item.result c.loop-said.invariant.0 c.loop-said-test.true c.said-item.is, c.requires)
-
-pub binding-requires-in-loop-said : goal.binding-requires-in-loop-said
-binding-requires-in-loop-said c = omega (arith, ends_room c.args.more.now _ c.loop-said.said-index c.loop-said.next c.said-item.result c.loop-said.invariant.0 c.loop-said-test.true c.said-item.is, c.requires)
 
 pub loop-said-preserved : goal.loop-said-preserved
 loop-said-preserved c =
