@@ -24,7 +24,7 @@ use Rattle.meaning.specs.Checks.{is_flag}
 use Rattle.meaning.specs.Tables.{value_meaning}
 use Rattle.meaning.specs.Knowns.{Known}
 use Rattle.meaning.specs.Outcomes.{Good, claim_in, first_of, RaisesBit, Tally, Totalled, WithinLimits, Judged}
-use Rattle.meaning.specs.Placed.{at_below}
+use Rattle.meaning.proofs.Placed.{at_below}
 use Rattle.meaning.proofs.Knowing.{mean_same, same_all_sym}
 use Rattle.meaning.proofs.Asking.{good_as}
 

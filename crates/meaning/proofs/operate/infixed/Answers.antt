@@ -6,7 +6,7 @@ use Rattle.sentence.specs.declared.sign.Infix.TheVariants as sign
 use Rattle.meaning.specs.Operators.{events_of, pairs_of, infixed}
 use Rattle.meaning.specs.Tables.{value_meaning}
 use Rattle.meaning.specs.Sameness.{infixed_same}
-use Rattle.meaning.specs.Operated.{pairs_made}
+use Rattle.meaning.proofs.Operated.{pairs_made}
 use Rattle.meaning.proofs.operate.infixed.Goals as goal
 
 pub returns-in-Semicolon : goal.returns-in-Semicolon

@@ -6,7 +6,7 @@ use Rattle.sentence.specs.declared.sign.Post.TheVariants as post
 use Rattle.meaning.specs.Operators.{pairs_of, postfixed}
 use Rattle.meaning.specs.Tables.{value_meaning}
 use Rattle.meaning.specs.Sameness.{postfixed_same}
-use Rattle.meaning.specs.Operated.{pairs_made}
+use Rattle.meaning.proofs.Operated.{pairs_made}
 use Rattle.meaning.proofs.operate.postfixed.Goals as goal
 
 pub returns-in-Plus : goal.returns-in-Plus

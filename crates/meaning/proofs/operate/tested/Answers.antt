@@ -4,7 +4,7 @@ use Rattle.relation.specs.Values.{of_events}
 use Rattle.meaning.specs.Operators.{events_of}
 use Rattle.meaning.specs.Tables.{value_meaning}
 use Rattle.meaning.specs.Sameness.{tested_same}
-use Rattle.meaning.specs.Operated.{pairs_made}
+use Rattle.meaning.proofs.Operated.{pairs_made}
 use Rattle.meaning.proofs.operate.tested.Goals as goal
 
 pub returns : goal.returns
