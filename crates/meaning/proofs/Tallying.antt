@@ -1,5 +1,5 @@
 -- Checks tried one by one. Assumes nothing.
-use Rattle.std.proofs.Common.{◌≡◌, ℕ, zero, suc, ◌+◌, ◌*◌, ◌%◌, ◌^◌, ◌<◌, ◌≤◌, Bool, true, false, not, ◌&&◌, ◌⊎◌, ◌↔◌, List, [], ◌∷◌, ◌++◌, map, min, length, get_or, take, Some, None, Decides, Option, sym, refl, ap, ◌∙◌, subst, inl, inr, ⊎_elim, arith}
+use Rattle.std.proofs.Common.{◌≡◌, ℕ, zero, suc, ◌+◌, ◌*◌, ◌%◌, ◌^◌, ◌<◌, ◌≤◌, Bool, true, false, not, ◌&&◌, ◌⊎◌, ◌↔◌, List, [], ◌∷◌, ◌++◌, map, min, length, get_or, take, Some, None, Decides, Option, sym, refl, ap, ◌∙◌, subst, inl, inr, ⊎_elim, true≢false, arith}
 use mathlib.Core.Path.{subst⁻¹}
 use Rattle.std.specs.List.{zip, filter_map, range_with_len}
 use Rattle.std.proofs.lemmas.List.{take_all, take_more, length-take-le, length_push}
@@ -62,13 +62,13 @@ option_cases (Some k) = inr (k, refl)
 
 -- of a check that is no flag
 holds_then : (flag good : Bool) → (not flag && not good) ≡ false → flag ≡ false → good ≡ true
-holds_then true good e f = let z : ◌≡◌ {A = ℕ} 0 1 = cc in absurd (omega arith)
+holds_then true good e f = absurd (true≢false f)
 holds_then false true e f = refl
-holds_then false false e f = let z : ◌≡◌ {A = ℕ} 0 1 = cc in absurd (omega arith)
+holds_then false false e f = absurd (true≢false e)
 
 fails_then : (flag good : Bool) → (not flag && not good) ≡ true → (flag ≡ false) × (good ≡ false)
-fails_then true good e = let z : ◌≡◌ {A = ℕ} 0 1 = cc in absurd (omega arith)
-fails_then false true e = let z : ◌≡◌ {A = ℕ} 0 1 = cc in absurd (omega arith)
+fails_then true good e = absurd (true≢false (sym e))
+fails_then false true e = absurd (true≢false (sym e))
 fails_then false false e = (refl, refl)
 
 -- the bits with one more, and without
@@ -217,11 +217,8 @@ tally_judged base ss o t =
         λ e k c at nf. t.passed e k c at nf,
         λ all. ⊎_elim (λ e. e) (λ e. let f = t.first e.0 e.1 in absurd (f.fails (all e.0 f.claim f.here f.no_flag))) (option_cases o.failure),
       );
-      fails = λ k e. let f = t.first k e in record { claim = f.claim; here = f.here; no_flag = f.no_flag; fails = f.fails; before = f.before };
-      flags = λ k. (
-        λ m. let x = (t.flags k).0 m in record { claim = x.claim; here = x.here; flag = x.flag; holds = x.holds },
-        λ x. (t.flags k).1 (record { claim = x.claim; here = x.here; flag = x.flag; holds = x.holds }),
-      );
+      fails = t.first;
+      flags = t.flags;
     }
 
 pub judged : (base : given_base.Base) (ss : List Statement) (values : List Value) (o : Outcome) → Known base ss values → Totalled (base_meaning base) (map value_meaning values) ss o → WithinLimits ss → Judged (base_meaning base) ss o
