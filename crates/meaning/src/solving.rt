@@ -58,6 +58,7 @@ impl<E: Equations + Copy> Ascent for Solving<E> {
     fn step(&self) -> Solving<E> {
         let equations = self.equations;
         let mut found = self.found;
+        // By number: while an iterator lends the table, an invariant cannot speak of it.
         for slot in 0..equations.count() {
             found[slot] = self.found[slot].union(equations.value(&self.found, slot));
         }

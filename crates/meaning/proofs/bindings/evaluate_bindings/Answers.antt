@@ -11,8 +11,3 @@ pub loop-statement-preserved : goal.loop-statement-preserved
 loop-statement-preserved c =
     going_more c.args.base.now (statements_of c.args.statements.now) c.loop-statement.statement-index c.loop-statement.values c.add_statement.new.values (statement_of c.statement-item.result)
     (at_read statement_of c.args.statements.now c.loop-statement.statement-index c.statement-item.result c.loop-statement-test.true c.statement-item.is) c.loop-statement.invariant c.add_statement.ensures
-
-pub returns : goal.returns
-returns c =
-    going_done c.args.base.now (statements_of c.args.statements.now) c.loop-statement.statement-index c.loop-statement.values (omega (arith, c.loop-statement-test.false, length-map c.args.statements.now statement_of))
-    c.loop-statement.invariant

@@ -8,6 +8,3 @@ loop-relation-init c = putting_none c.args.values.now
 pub loop-relation-preserved : goal.loop-relation-preserved
 loop-relation-preserved c =
     putting_more c.args.values.now c.loop-relation.values c.push.new.self c.args.found.now c.loop-relation.relation-index c.pairs.result _ (omega arith) c.loop-relation.invariant c.push.ensures.room c.pairs.ensures
-
-pub returns : goal.returns
-returns c = putting_done c.args.values.now c.loop-relation.values c.args.found.now c.loop-relation.relation-index (omega arith) c.loop-relation.invariant

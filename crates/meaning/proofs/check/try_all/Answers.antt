@@ -23,9 +23,6 @@ turned c =
     c.filter_map-checks.ensures.closure))))
     c.loop-number.yielded _ c.loop-number.yielded_by _ _ (c.in-Some.number, c.in-Some.check) c.in-Some.is c.next.ensures.steps)
 
-pub loop-number-init : goal.loop-number-init
-loop-number-init c = tally_none _ c.none-outcome.result c.none-outcome.ensures.failure c.none-outcome.ensures.flags
-
 pub loop-number-preserved : goal.loop-number-preserved
 loop-number-preserved c =
     tried_more (Good (base_meaning c.args.setting.now.base.now) (map value_meaning c.args.setting.now.known.now)) c.args.statements.now c.loop-number.yielded (c.in-Some.number, c.in-Some.check) c.in-Some.number (claim_of c.in-Some.check.now) c.loop-number.outcome c.with-outcome.result c.is_flag.result c.holds.result

@@ -7,6 +7,3 @@ use Rattle.meaning.proofs.operate.events_in.Goals as goal
 
 pub returns-in-Events : goal.returns-in-Events
 returns-in-Events c = by_events (λ m. SameEvents (Member c.args.value.mask) (events_of m)) c.args.value c.in-Events.is (λ n. (λ x. x, λ x. x))
-
-pub returns-in-Pairs : goal.returns-in-Pairs
-returns-in-Pairs c = by_pairs (λ m. SameEvents (Member 0) (events_of m)) c.args.value c.in-Pairs.is (λ n. (in_nothing n, λ x. absurd x))

@@ -6,9 +6,6 @@ use Rattle.meaning.specs.Operators.{pairs_of}
 use Rattle.meaning.proofs.Operated.{by_events, by_pairs}
 use Rattle.meaning.proofs.operate.pairs_in.Goals as goal
 
-pub returns-in-Events : goal.returns-in-Events
-returns-in-Events c = by_events (λ m. SamePairs (Related c.none.result.rows) (pairs_of m)) c.args.value c.in-Events.is c.none.ensures.same
-
 pub returns-in-Pairs : goal.returns-in-Pairs
 returns-in-Pairs c =
     by_pairs (λ m. SamePairs (Related c.relation.result.rows) (pairs_of m)) c.args.value c.in-Pairs.is

@@ -11,11 +11,3 @@ returns-in-Plus c =
 pub returns-in-Closure : goal.returns-in-Closure
 returns-in-Closure c =
     postfixed_made (Member c.args.universe) post.Closure c.in-Closure.is c.pairs-in-Closure.result (Related c.pairs_in-relation.result.rows) (value_meaning c.args.value) c.pairs-in-Closure.ensures c.star.ensures c.pairs_in-relation.ensures
-
-pub returns-in-Question : goal.returns-in-Question
-returns-in-Question c =
-    postfixed_made (Member c.args.universe) post.Question c.in-Question.is c.pairs-in-Question.result (Related c.pairs_in-relation.result.rows) (value_meaning c.args.value) c.pairs-in-Question.ensures c.maybe.ensures c.pairs_in-relation.ensures
-
-pub returns-in-Inverse : goal.returns-in-Inverse
-returns-in-Inverse c =
-    postfixed_made (Member c.args.universe) post.Inverse c.in-Inverse.is c.pairs-in-Inverse.result (Related c.pairs_in-relation.result.rows) (value_meaning c.args.value) c.pairs-in-Inverse.ensures c.inverse.ensures c.pairs_in-relation.ensures
