@@ -10,7 +10,6 @@ use Rattle.finite.specs.Lists.{At}
 use Rattle.relation.specs.declared.value.Value.{Value}
 use Rattle.relation.specs.Sets.{Either}
 use Rattle.relation.specs.Masks.{Member, Marks}
-use Rattle.relation.specs.Values.{Meaning}
 use Rattle.relation.specs.Bits.{in_nothing, in_power}
 use Rattle.term.specs.Statements.{Claim, Statement, claim_of, statement_of, statements_of, claims}
 use Rattle.term.specs.declared.statement.Statement as program

@@ -1,9 +1,9 @@
 -- What comes of trying the checks of a text. Assumes nothing.
-use Rattle.std.specs.Prelude.{◌≡◌, ℕ, ◌<◌, ◌≤◌, Bool, true, false, ◌⊎◌, ◌↔◌, List, [], ◌∷◌, length, Some, None, Option}
+use Rattle.std.specs.Prelude.{◌≡◌, ℕ, ◌≤◌, Bool, true, false, ◌⊎◌, ◌↔◌, List, [], length, Some, None, Option}
 use Rattle.finite.specs.Lists.{At}
 use Rattle.relation.specs.Masks.{Member}
 use Rattle.relation.specs.Values.{Meaning}
-use Rattle.term.specs.Statements.{Binding, Claim, Statement, lets, groups, checks, claims}
+use Rattle.term.specs.Statements.{Claim, Statement, lets, groups, checks, claims}
 use Rattle.term.specs.Recursion.{all_denied, many_bindings}
 use Rattle.meaning.specs.declared.outcome.Outcome.{Outcome}
 use Rattle.meaning.specs.Meanings.{Base, meaning}

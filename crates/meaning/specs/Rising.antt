@@ -18,7 +18,7 @@ use Rattle.meaning.specs.Meanings.{Base, meaning}
 use Rattle.meaning.specs.Groups.{as_meanings}
 use Rattle.meaning.specs.Tables.{value_meaning}
 use Rattle.meaning.specs.Systems.{System, before, names, Body, Positive}
-use Rattle.meaning.specs.Sameness.{Below, below_self, same_self, same_below, same_above, pairs_below, pairs_same, infixed_below, postfixed_below, outside_below, tested_below, infixed_same, postfixed_same, outside_same, tested_same}
+use Rattle.meaning.specs.Sameness.{Below, below_self, same_self, same_below, same_above, pairs_below, infixed_below, postfixed_below, outside_below, tested_below, infixed_same, postfixed_same, outside_same, tested_same}
 
 -- what a name without a binding means
 abbrev pub never : Meaning

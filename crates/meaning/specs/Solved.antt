@@ -2,24 +2,18 @@
 use Rattle.std.specs.Prelude.{◌≡◌, ℕ, ◌*◌, ◌^◌, ◌<◌, ◌≤◌, List, [], length, slice_index}
 use Rattle.std.proofs.Common.{sym, ◌∙◌, ap, subst, inl, inr, ⊎_elim, arith}
 use Rattle.std.proofs.Math.Path.{subst⁻¹}
-use Rattle.std.proofs.lemmas.List.{ext_get_or, get_or_past, length-replicate}
+use Rattle.std.proofs.lemmas.List.{ext_get_or, get_or_past}
 use Rattle.std.proofs.lemmas.Bool.{cases_lt}
-use Rattle.finite.specs.Lists.{At}
 use Rattle.relation.specs.declared.relation.Relation.{Relation}
-use Rattle.relation.specs.Relations.{Pairs, Never, Inside}
-use Rattle.relation.specs.Masks.{Related, Shows}
-use Rattle.relation.specs.Climbs.{Climbed, total}
+use Rattle.relation.specs.Relations.{Pairs, Inside}
+use Rattle.relation.specs.Masks.{Related}
+use Rattle.relation.specs.Climbs.{total}
 use Rattle.relation.specs.Alike.{same_rows}
 use Rattle.relation.specs.Bits.{in_nothing}
 use Rattle.relation.specs.Closings.{rows_rise}
 use Rattle.relation.specs.Totals.{total_fits, total_rises}
-use Rattle.given.specs.Bases.{base_meaning}
-use Rattle.term.specs.Statements.{Binding}
 use Rattle.meaning.specs.declared.solving.Solving.{Solving}
-use Rattle.meaning.specs.Operators.{pairs_of}
-use Rattle.meaning.specs.Meanings.{meaning}
-use Rattle.meaning.specs.Groups.{Candidates, told, Solves}
-use Rattle.meaning.specs.Systems.{System, rows_at, Table, before, names, Body, Positive, slots, Least}
+use Rattle.meaning.specs.Systems.{System, rows_at, Table, Body, Positive, slots}
 use Rattle.meaning.specs.Solvings.{SolvingBegins, SolvingSteps, SolvingBelow, SolvingSolves, SolvingAlong, SolvingAlike, solving_height, totals}
 use Rattle.meaning.specs.Rising.{body_inside}
 use Rattle.meaning.specs.Totals.{totals_fit, totals_same}

@@ -1,7 +1,5 @@
-use Rattle.std.proofs.Common.{arith}
-use lib.ListN.{length-map}
 use Rattle.term.specs.Statements.{statement_of, statements_of}
-use Rattle.meaning.proofs.Gone.{at_read, going_none, going_more, going_done}
+use Rattle.meaning.proofs.Gone.{at_read, going_none, going_more}
 use Rattle.meaning.proofs.bindings.evaluate_bindings.Goals as goal
 
 pub loop-statement-init : goal.loop-statement-init

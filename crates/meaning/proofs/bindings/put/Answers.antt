@@ -1,5 +1,5 @@
 use Rattle.std.proofs.Common.{arith}
-use Rattle.meaning.proofs.Knowing.{putting_none, putting_more, putting_done}
+use Rattle.meaning.proofs.Knowing.{putting_none, putting_more}
 use Rattle.meaning.proofs.bindings.put.Goals as goal
 
 pub loop-relation-init : goal.loop-relation-init

@@ -1,7 +1,7 @@
 use mathlib.Core.Path.{subst⁻¹}
 use Rattle.std.proofs.Common.{Decides}
 use Rattle.relation.specs.Masks.{Related}
-use Rattle.term.specs.Statements.{acyclic, irreflexive}
+use Rattle.term.specs.Statements.{acyclic}
 use Rattle.meaning.specs.Operators.{pairs_of}
 use Rattle.meaning.specs.Checks.{Asked}
 use Rattle.meaning.specs.Tables.{value_meaning}

@@ -6,7 +6,7 @@ use Rattle.given.specs.Bases.{base_meaning}
 use Rattle.meaning.specs.Tables.{value_meaning}
 use Rattle.meaning.specs.Outcomes.{Good}
 use Rattle.meaning.proofs.Chains.{picked_road}
-use Rattle.meaning.proofs.Tallying.{claim_at, Turn, turn_at, tally_none, tried_more, tried_all}
+use Rattle.meaning.proofs.Tallying.{claim_at, Turn, turn_at, tried_more, tried_all}
 use Rattle.meaning.proofs.check.try_all.Goals as goal
 use Rattle.meaning.proofs.check.try_all.Goals.{In-Some}
 

@@ -1,8 +1,7 @@
 use Rattle.relation.specs.Sets.{SameEvents}
 use Rattle.relation.specs.Masks.{Member}
-use Rattle.relation.specs.Bits.{in_nothing}
 use Rattle.meaning.specs.Operators.{events_of}
-use Rattle.meaning.proofs.Operated.{by_events, by_pairs}
+use Rattle.meaning.proofs.Operated.{by_events}
 use Rattle.meaning.proofs.operate.events_in.Goals as goal
 
 pub returns-in-Events : goal.returns-in-Events

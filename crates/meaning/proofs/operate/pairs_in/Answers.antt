@@ -3,7 +3,7 @@ use mathlib.Core.Path.{subst⁻¹}
 use Rattle.relation.specs.Relations.{SamePairs}
 use Rattle.relation.specs.Masks.{Related}
 use Rattle.meaning.specs.Operators.{pairs_of}
-use Rattle.meaning.proofs.Operated.{by_events, by_pairs}
+use Rattle.meaning.proofs.Operated.{by_pairs}
 use Rattle.meaning.proofs.operate.pairs_in.Goals as goal
 
 pub returns-in-Pairs : goal.returns-in-Pairs

@@ -1,4 +1,4 @@
-use Rattle.meaning.proofs.Tallying.{raised_up, raised_not}
+use Rattle.meaning.proofs.Tallying.{raised_up}
 use Rattle.meaning.proofs.outcome.raised.Goals as goal
 
 pub returns-then-up : goal.returns-then-up

@@ -1,7 +1,7 @@
-use Rattle.std.proofs.Common.{refl, arith}
+use Rattle.std.proofs.Common.{arith}
 use Rattle.relation.specs.Relations.{Union}
 use Rattle.meaning.specs.Systems.{Table, Body}
-use Rattle.meaning.proofs.Placed.{filling_none, filling_more, union_as}
+use Rattle.meaning.proofs.Placed.{filling_more, union_as}
 use Rattle.meaning.proofs.solving.SolvingAscent.step.Goals as goal
 
 pub loop-slot-preserved : goal.loop-slot-preserved
