@@ -14,8 +14,8 @@ use Rattle.meaning.specs.Checks.{Nothing, Asked, Turned}
 use Rattle.meaning.specs.Tables.{value_meaning}
 use Rattle.meaning.specs.Outcomes.{Good}
 use Rattle.meaning.specs.Sameness.{same_sym, same_above, pairs_below}
-use Rattle.meaning.specs.Operated.{means_same}
-use Rattle.meaning.specs.Rising.{meaning_same}
+use Rattle.meaning.proofs.Operated.{means_same}
+use Rattle.meaning.proofs.Evaluated.{meaning_same}
 use Rattle.meaning.proofs.Knowing.{SameAll, same_all_at}
 
 nothing_as : (m n : Meaning) → Same m n → Nothing m → Nothing n

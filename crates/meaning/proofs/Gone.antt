@@ -14,7 +14,7 @@ use Rattle.meaning.specs.Groups.{known_after, bindings_mean}
 use Rattle.meaning.specs.Tables.{value_meaning, AllMean}
 use Rattle.meaning.specs.Knowns.{Added, Known}
 use Rattle.meaning.specs.Rising.{empty_parts}
-use Rattle.meaning.specs.Placed.{at_map}
+use Rattle.meaning.proofs.Placed.{at_map}
 use Rattle.meaning.proofs.Knowing.{mean_none, mean_same, mean_as, after_same, added_length}
 
 -- what is read at a place stands there in the mapped list

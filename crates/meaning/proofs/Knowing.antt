@@ -1,5 +1,5 @@
 -- Tables of values that mean what bindings mean. Assumes nothing.
-use Rattle.std.proofs.Common.{◌≡◌, ℕ, zero, suc, ◌+◌, ◌-◌, ◌<◌, ◌≤◌, min, List, [], ◌∷◌, ◌++◌, map, length, get_or, take, sym, refl, ap, ◌∙◌, subst, append_assoc, arith}
+use Rattle.std.proofs.Common.{◌≡◌, ℕ, zero, suc, ◌+◌, ◌<◌, ◌≤◌, min, List, [], ◌∷◌, ◌++◌, map, length, get_or, take, sym, refl, ap, ◌∙◌, subst, append_assoc, arith}
 use mathlib.Core.Path.{subst⁻¹}
 use lib.ListN.{length-map}
 use Rattle.std.proofs.lemmas.List.{append-nil, take_more, take_all, map-append, length-append, length-take-le}
@@ -17,9 +17,9 @@ use Rattle.meaning.specs.Tables.{value_meaning, relation_meaning, AllMean}
 use Rattle.meaning.specs.Systems.{Table, Least}
 use Rattle.meaning.specs.Knowns.{Added}
 use Rattle.meaning.specs.Sameness.{same_self, same_sym, same_trans, pairs_same}
-use Rattle.meaning.specs.Operated.{means_self, means_same, means_as}
-use Rattle.meaning.specs.Evaluated.{never}
-use Rattle.meaning.specs.Rising.{meaning_same, length_names}
+use Rattle.meaning.specs.Rising.{never, length_names}
+use Rattle.meaning.proofs.Operated.{means_self, means_same, means_as}
+use Rattle.meaning.proofs.Evaluated.{meaning_same}
 use Rattle.meaning.proofs.Valued.{front_names}
 
 -- as many meanings, each the same
@@ -144,20 +144,23 @@ putting_done old values found i l p = subst (Putting old values) (take_all i fou
 pub term_same : (base : Base) (ks js : List Meaning) → SameAll ks js → (b : Binding) → Same (meaning base ks b.term) (meaning base js b.term)
 term_same base ks js h b = meaning_same base ks js (same_all_at ks js h) b.term
 
-solves_same : (base : Base) (ks js : List Meaning) (bs : List Binding) (R : ℕ → Pairs) → SameAll ks js → Solves base ks bs R → Solves base js bs R
-solves_same base ks js bs R h s j b at x y =
-    let names = as_meanings R 0 bs in
-    let e = pairs_same (meaning base (ks ++ names) b.term) (meaning base (js ++ names) b.term) (term_same base (ks ++ names) (js ++ names) (same_all_append ks js names names h (same_all_self names)) b) in
-    (λ r. (e x y).0 ((s j b at x y).0 r), λ r. (s j b at x y).1 ((e x y).1 r))
-
-least_same : (base : Base) (ks js : List Meaning) (bs : List Binding) → SameAll ks js → (j : ℕ) → SamePairs (least base ks bs j) (least base js bs j)
-least_same base ks js bs h j a b =
-    (λ l x s. l x (solves_same base js ks bs (told x) (same_all_sym ks js h) s), λ l x s. l x (solves_same base ks js bs (told x) h s))
-
+-- names that are the same
 as_same_all : (R S : ℕ → Pairs) → ((j : ℕ) → SamePairs (R j) (S j)) → (k : ℕ) (bs : List Binding) → SameAll (as_meanings R k bs) (as_meanings S k bs)
 unfolding as_meanings SameAll
 as_same_all R S h k [] = tt
 as_same_all R S h k (b ∷ bs) = (h k, as_same_all R S h (k + 1) bs)
+
+-- a solution under other names, and other meanings before them, that are the same
+pub solves_same : (base : Base) (ks js : List Meaning) (bs : List Binding) (R S : ℕ → Pairs) → SameAll ks js → ((j : ℕ) → SamePairs (R j) (S j)) → Solves base ks bs R → Solves base js bs S
+solves_same base ks js bs R S h same s j b at x y =
+    let ns = as_meanings R 0 bs in
+    let ms = as_meanings S 0 bs in
+    let e = pairs_same (meaning base (ks ++ ns) b.term) (meaning base (js ++ ms) b.term) (term_same base (ks ++ ns) (js ++ ms) (same_all_append ks js ns ms h (as_same_all R S same 0 bs)) b) in
+    (λ r. (e x y).0 ((s j b at x y).0 ((same j x y).1 r)), λ r. (same j x y).0 ((s j b at x y).1 ((e x y).1 r)))
+
+least_same : (base : Base) (ks js : List Meaning) (bs : List Binding) → SameAll ks js → (j : ℕ) → SamePairs (least base ks bs j) (least base js bs j)
+least_same base ks js bs h j a b =
+    (λ l x s. l x (solves_same base js ks bs (told x) (told x) (same_all_sym ks js h) (λ j a b. (λ r. r, λ r. r)) s), λ l x s. l x (solves_same base ks js bs (told x) (told x) h (λ j a b. (λ r. r, λ r. r)) s))
 
 -- what is known behind a statement
 pub after_same : (base : Base) (ks js : List Meaning) → SameAll ks js → (s : Statement) → SameAll (known_after base ks s) (known_after base js s)

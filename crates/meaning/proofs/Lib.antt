@@ -1,7 +1,11 @@
+pub mod Operated
+pub mod Evaluated
+pub mod Placed
 pub mod Valued
 pub mod Knowing
+pub mod Ended
 pub mod Gone
-pub mod Chains
 pub mod Alike
 pub mod Asking
+pub mod Chains
 pub mod Tallying

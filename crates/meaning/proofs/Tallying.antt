@@ -1,5 +1,5 @@
 -- Checks tried one by one. Assumes nothing.
-use Rattle.std.proofs.Common.{◌≡◌, ℕ, zero, suc, ◌+◌, ◌*◌, ◌%◌, ◌^◌, ◌<◌, ◌≤◌, Bool, true, false, not, ◌&&◌, ◌⊎◌, ◌↔◌, List, [], ◌∷◌, ◌++◌, map, min, length, get_or, take, Some, None, Decides, Option, sym, refl, ap, ◌∙◌, subst, inl, inr, ⊎_elim, arith}
+use Rattle.std.proofs.Common.{◌≡◌, ℕ, zero, suc, ◌+◌, ◌*◌, ◌%◌, ◌^◌, ◌<◌, ◌≤◌, Bool, true, false, not, ◌&&◌, ◌⊎◌, ◌↔◌, List, [], ◌∷◌, ◌++◌, map, min, length, get_or, take, Some, None, Decides, Option, sym, refl, ap, ◌∙◌, subst, inl, inr, ⊎_elim, true≢false, arith}
 use mathlib.Core.Path.{subst⁻¹}
 use Rattle.std.specs.List.{zip, filter_map, range_with_len}
 use Rattle.std.proofs.lemmas.List.{take_all, take_more, length-take-le, length_push}
@@ -10,7 +10,6 @@ use Rattle.finite.specs.Lists.{At}
 use Rattle.relation.specs.declared.value.Value.{Value}
 use Rattle.relation.specs.Sets.{Either}
 use Rattle.relation.specs.Masks.{Member, Marks}
-use Rattle.relation.specs.Values.{Meaning}
 use Rattle.relation.specs.Bits.{in_nothing, in_power}
 use Rattle.term.specs.Statements.{Claim, Statement, claim_of, statement_of, statements_of, claims}
 use Rattle.term.specs.declared.statement.Statement as program
@@ -24,7 +23,7 @@ use Rattle.meaning.specs.Checks.{is_flag}
 use Rattle.meaning.specs.Tables.{value_meaning}
 use Rattle.meaning.specs.Knowns.{Known}
 use Rattle.meaning.specs.Outcomes.{Good, claim_in, first_of, RaisesBit, Tally, Totalled, WithinLimits, Judged}
-use Rattle.meaning.specs.Placed.{at_below}
+use Rattle.meaning.proofs.Placed.{at_below}
 use Rattle.meaning.proofs.Knowing.{mean_same, same_all_sym}
 use Rattle.meaning.proofs.Asking.{good_as}
 
@@ -62,13 +61,13 @@ option_cases (Some k) = inr (k, refl)
 
 -- of a check that is no flag
 holds_then : (flag good : Bool) → (not flag && not good) ≡ false → flag ≡ false → good ≡ true
-holds_then true good e f = let z : ◌≡◌ {A = ℕ} 0 1 = cc in absurd (omega arith)
+holds_then true good e f = absurd (true≢false f)
 holds_then false true e f = refl
-holds_then false false e f = let z : ◌≡◌ {A = ℕ} 0 1 = cc in absurd (omega arith)
+holds_then false false e f = absurd (true≢false e)
 
 fails_then : (flag good : Bool) → (not flag && not good) ≡ true → (flag ≡ false) × (good ≡ false)
-fails_then true good e = let z : ◌≡◌ {A = ℕ} 0 1 = cc in absurd (omega arith)
-fails_then false true e = let z : ◌≡◌ {A = ℕ} 0 1 = cc in absurd (omega arith)
+fails_then true good e = absurd (true≢false (sym e))
+fails_then false true e = absurd (true≢false (sym e))
 fails_then false false e = (refl, refl)
 
 -- the bits with one more, and without
@@ -217,11 +216,8 @@ tally_judged base ss o t =
         λ e k c at nf. t.passed e k c at nf,
         λ all. ⊎_elim (λ e. e) (λ e. let f = t.first e.0 e.1 in absurd (f.fails (all e.0 f.claim f.here f.no_flag))) (option_cases o.failure),
       );
-      fails = λ k e. let f = t.first k e in record { claim = f.claim; here = f.here; no_flag = f.no_flag; fails = f.fails; before = f.before };
-      flags = λ k. (
-        λ m. let x = (t.flags k).0 m in record { claim = x.claim; here = x.here; flag = x.flag; holds = x.holds },
-        λ x. (t.flags k).1 (record { claim = x.claim; here = x.here; flag = x.flag; holds = x.holds }),
-      );
+      fails = t.first;
+      flags = t.flags;
     }
 
 pub judged : (base : given_base.Base) (ss : List Statement) (values : List Value) (o : Outcome) → Known base ss values → Totalled (base_meaning base) (map value_meaning values) ss o → WithinLimits ss → Judged (base_meaning base) ss o

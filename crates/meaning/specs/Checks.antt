@@ -42,20 +42,28 @@ Holds base ss c = Turned c.negated (Asked c.word (meaning base (bindings_mean ba
 abbrev pub AllHold : Base → List Statement → Type 0
 AllHold base ss = (k : ℕ) (c : Claim) → At (claims ss) k c → is_flag c.mark ≡ false → Holds base ss c
 
--- check k is a flag, and holds
-pub record FlagHolds (base : Base) (ss : List Statement) (k : ℕ) : Type 0 where
+-- check k of some is a flag, and is as it should be
+pub record Raised (P : Claim → Type 0) (cs : List Claim) (k : ℕ) : Type 0 where
   pub claim : Claim
-  pub here : At (claims ss) k claim
+  pub here : At cs k claim
   pub flag : is_flag claim.mark ≡ true
-  pub holds : Holds base ss claim
+  pub holds : P claim
+
+-- check k of some is the first without flag that is not as it should be
+pub record First (P : Claim → Type 0) (cs : List Claim) (k : ℕ) : Type 0 where
+  pub claim : Claim
+  pub here : At cs k claim
+  pub no_flag : is_flag claim.mark ≡ false
+  pub fails : P claim → ⊥
+  pub before : (j : ℕ) (c : Claim) → j < k → At cs j c → is_flag c.mark ≡ false → P c
+
+-- check k is a flag, and holds
+abbrev pub FlagHolds : Base → List Statement → ℕ → Type 0
+FlagHolds base ss k = Raised (Holds base ss) (claims ss) k
 
 -- check k is the first without flag that does not hold
-pub record FirstFailure (base : Base) (ss : List Statement) (k : ℕ) : Type 0 where
-  pub claim : Claim
-  pub here : At (claims ss) k claim
-  pub no_flag : is_flag claim.mark ≡ false
-  pub fails : Holds base ss claim → ⊥
-  pub before : (j : ℕ) (c : Claim) → j < k → At (claims ss) j c → is_flag c.mark ≡ false → Holds base ss c
+abbrev pub FirstFailure : Base → List Statement → ℕ → Type 0
+FirstFailure base ss k = First (Holds base ss) (claims ss) k
 
 -- an order passes under a run: every check without flag holds
 abbrev pub Passes : List Statement → Run → Order → Type 0

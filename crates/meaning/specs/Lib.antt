@@ -8,11 +8,7 @@ pub mod Solvings
 pub mod Knowns
 pub mod Outcomes
 pub mod Solved
-pub mod Placed
 pub mod Rising
 pub mod Sameness
-pub mod Evaluated
-pub mod Operated
 pub mod Kinds
 pub mod Totals
-pub mod Rounds

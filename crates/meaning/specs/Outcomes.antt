@@ -1,13 +1,13 @@
 -- What comes of trying the checks of a text. Assumes nothing.
-use Rattle.std.specs.Prelude.{◌≡◌, ℕ, ◌<◌, ◌≤◌, Bool, true, false, ◌⊎◌, ◌↔◌, List, [], ◌∷◌, length, Some, None, Option}
+use Rattle.std.specs.Prelude.{◌≡◌, ℕ, ◌≤◌, Bool, true, false, ◌⊎◌, ◌↔◌, List, [], length, Some, None, Option}
 use Rattle.finite.specs.Lists.{At}
 use Rattle.relation.specs.Masks.{Member}
 use Rattle.relation.specs.Values.{Meaning}
-use Rattle.term.specs.Statements.{Binding, Claim, Statement, lets, groups, checks, claims}
+use Rattle.term.specs.Statements.{Claim, Statement, lets, groups, checks, claims}
 use Rattle.term.specs.Recursion.{all_denied, many_bindings}
 use Rattle.meaning.specs.declared.outcome.Outcome.{Outcome}
 use Rattle.meaning.specs.Meanings.{Base, meaning}
-use Rattle.meaning.specs.Checks.{Asked, Turned, is_flag, AllHold, FlagHolds, FirstFailure}
+use Rattle.meaning.specs.Checks.{Asked, Turned, is_flag, Raised, First, AllHold, FlagHolds, FirstFailure}
 
 -- a check holds, where the bindings have these meanings
 abbrev pub Good : Base → List Meaning → Claim → Type 0
@@ -22,21 +22,6 @@ first_of None number false = None
 -- the bits that are raised: those that were, and the one of the number if it is up
 abbrev pub RaisesBit : ℕ → ℕ → Bool → ℕ → Type 0
 RaisesBit old number up new = (k : ℕ) → Member new k ↔ (Member old k ⊎ ((up ≡ true) × (k ≡ number)))
-
--- check k of some is a flag, and is as it should be
-pub record Raised (P : Claim → Type 0) (cs : List Claim) (k : ℕ) : Type 0 where
-  pub claim : Claim
-  pub here : At cs k claim
-  pub flag : is_flag claim.mark ≡ true
-  pub holds : P claim
-
--- check k of some is the first without flag that is not as it should be
-pub record First (P : Claim → Type 0) (cs : List Claim) (k : ℕ) : Type 0 where
-  pub claim : Claim
-  pub here : At cs k claim
-  pub no_flag : is_flag claim.mark ≡ false
-  pub fails : P claim → ⊥
-  pub before : (j : ℕ) (c : Claim) → j < k → At cs j c → is_flag c.mark ≡ false → P c
 
 -- the outcome of some checks
 pub record Tally (P : Claim → Type 0) (cs : List Claim) (o : Outcome) : Type 0 where

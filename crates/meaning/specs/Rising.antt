@@ -5,8 +5,8 @@ use Rattle.std.proofs.Math.Logic.{⊎_elim}
 use Rattle.std.proofs.lemmas.List.{length-append, length-map}
 use Rattle.std.proofs.lemmas.Bool.{leb-false, ltb-false, and_cases, cases_Bool}
 use Rattle.finite.specs.Lists.{At}
-use Rattle.relation.specs.Relations.{Pairs, Inside, SamePairs}
-use Rattle.relation.specs.Values.{Meaning}
+use Rattle.relation.specs.Relations.{Never, Pairs, Inside}
+use Rattle.relation.specs.Values.{Meaning, of_pairs}
 use Rattle.term.specs.declared.term.Given.TheVariants.{Universe}
 use Rattle.term.specs.Least.{fault_if}
 use Rattle.term.specs.Terms.{Term, given, bound, unbound, test, complement, ended, joined}
@@ -15,27 +15,24 @@ use Rattle.term.specs.Recursion.{of_group, denies_right, denied, group_denied}
 use Rattle.given.specs.Bases.{Same, base_meaning}
 use Rattle.meaning.specs.Operators.{events_of}
 use Rattle.meaning.specs.Meanings.{Base, meaning}
-use Rattle.meaning.specs.Groups.{as_meanings, Solves}
+use Rattle.meaning.specs.Groups.{as_meanings}
 use Rattle.meaning.specs.Tables.{value_meaning}
 use Rattle.meaning.specs.Systems.{System, before, names, Body, Positive}
-use Rattle.meaning.specs.Sameness.{Below, below_self, same_self, same_below, same_above, pairs_below, pairs_same, infixed_below, postfixed_below, outside_below, tested_below, infixed_same, postfixed_same, outside_same, tested_same}
-use Rattle.meaning.specs.Evaluated.{never, past_at}
+use Rattle.meaning.specs.Sameness.{Below, below_self, same_self, same_below, same_above, pairs_below, infixed_below, postfixed_below, outside_below, tested_below, infixed_same, postfixed_same, outside_same, tested_same}
+
+-- what a name without a binding means
+abbrev pub never : Meaning
+never = of_pairs Never
+
+-- past the end of a list of meanings
+pub past_at : (ms : List Meaning) (n : ℕ) → length ms ≤ n → slice_index_or ms n never ≡ never
+past_at [] n l = refl
+past_at (m ∷ ms) zero l = absurd (omega arith)
+past_at (m ∷ ms) (suc n) l = past_at ms n (omega arith)
 
 -- meanings that are equal are the same
 pub path_same : {m n : Meaning} → m ≡ n → Same m n
 path_same {m} e = subst (Same m) e (same_self m)
-
--- a term means the same where its names do
-pub meaning_same : (base : Base) (ns ms : List Meaning) → ((i : ℕ) → Same (slice_index_or ns i never) (slice_index_or ms i never)) → (t : Term) → Same (meaning base ns t) (meaning base ms t)
-unfolding meaning
-meaning_same base ns ms h (given g) = same_self (base g)
-meaning_same base ns ms h (bound k i) = h i
-meaning_same base ns ms h (unbound k) = same_self never
-meaning_same base ns ms h (test k t) = tested_same (meaning base ns t) (meaning base ms t) (meaning_same base ns ms h t)
-meaning_same base ns ms h (complement t) = outside_same (events_of (base Universe)) (meaning base ns t) (meaning base ms t) (meaning_same base ns ms h t)
-meaning_same base ns ms h (ended k p t) = postfixed_same (events_of (base Universe)) p (meaning base ns t) (meaning base ms t) (meaning_same base ns ms h t)
-meaning_same base ns ms h (joined k i l r) =
-    infixed_same i (meaning base ns l) (meaning base ms l) (meaning base ns r) (meaning base ms r) (meaning_same base ns ms h l) (meaning_same base ns ms h r)
 
 -- the meanings of the group's names rise, and the others are the same
 pub record Rises (first many : ℕ) (ns ms : List Meaning) : Type 0 where
@@ -105,23 +102,11 @@ as_below R S up k [] j = below_self never
 as_below R S up k (b ∷ bs) zero = up k
 as_below R S up k (b ∷ bs) (suc j) = as_below R S up (k + 1) bs j
 
--- names that are the same
-as_same : (R S : ℕ → Pairs) → ((j : ℕ) → SamePairs (R j) (S j)) → (k : ℕ) (bs : List Binding) (j : ℕ) → Same (slice_index_or (as_meanings R k bs) j never) (slice_index_or (as_meanings S k bs) j never)
-unfolding as_meanings
-as_same R S up k [] j = same_self never
-as_same R S up k (b ∷ bs) zero = up k
-as_same R S up k (b ∷ bs) (suc j) = as_same R S up (k + 1) bs j
-
 -- behind the same meanings
 behind_below : (ks xs ys : List Meaning) → ((j : ℕ) → Below (slice_index_or xs j never) (slice_index_or ys j never)) → (i : ℕ) → Below (slice_index_or (ks ++ xs) i never) (slice_index_or (ks ++ ys) i never)
 behind_below [] xs ys h i = h i
 behind_below (k ∷ ks) xs ys h zero = below_self k
 behind_below (k ∷ ks) xs ys h (suc i) = behind_below ks xs ys h i
-
-pub behind_same : (ks xs ys : List Meaning) → ((j : ℕ) → Same (slice_index_or xs j never) (slice_index_or ys j never)) → (i : ℕ) → Same (slice_index_or (ks ++ xs) i never) (slice_index_or (ks ++ ys) i never)
-behind_same [] xs ys h i = h i
-behind_same (k ∷ ks) xs ys h zero = same_self k
-behind_same (k ∷ ks) xs ys h (suc i) = behind_same ks xs ys h i
 
 -- among the same meanings
 among_same : (ks xs ys : List Meaning) (i : ℕ) → i < length ks → Same (slice_index_or (ks ++ xs) i never) (slice_index_or (ks ++ ys) i never)
@@ -159,9 +144,3 @@ body_inside s pos R S up j a b m =
           (rising (base_meaning s.base) (length s.known) (length s.bindings) (names s R) (names s S) (names_rise s R S up) t (group_at (length s.known) (length s.bindings) s.bindings pos j m.0 m.1))
           a b m.2,
     )
-
--- a solution under other names for the same relations
-pub solves_as : (base : Base) (known : List Meaning) (bs : List Binding) (R S : ℕ → Pairs) → ((j : ℕ) → SamePairs (R j) (S j)) → Solves base known bs R → Solves base known bs S
-solves_as base known bs R S same solves j b h x y =
-    let e = pairs_same (meaning base (known ++ as_meanings R 0 bs) b.term) (meaning base (known ++ as_meanings S 0 bs) b.term) (meaning_same base (known ++ as_meanings R 0 bs) (known ++ as_meanings S 0 bs) (behind_same known (as_meanings R 0 bs) (as_meanings S 0 bs) (as_same R S same 0 bs)) b.term) in
-    (λ r. (e x y).0 ((solves j b h x y).0 ((same j x y).1 r)), λ r. (same j x y).0 ((solves j b h x y).1 ((e x y).1 r)))

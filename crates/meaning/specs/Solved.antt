@@ -1,50 +1,38 @@
 -- The laws of the climb to the least solution of a let rec group. Assumes nothing.
-use Rattle.std.specs.Prelude.{◌≡◌, ℕ, ◌*◌, ◌^◌, ◌<◌, ◌≤◌, [], length, replicate, slice_index}
+use Rattle.std.specs.Prelude.{◌≡◌, ℕ, ◌*◌, ◌^◌, ◌<◌, ◌≤◌, List, [], length, slice_index}
 use Rattle.std.proofs.Common.{sym, ◌∙◌, ap, subst, inl, inr, ⊎_elim, arith}
 use Rattle.std.proofs.Math.Path.{subst⁻¹}
-use Rattle.std.proofs.lemmas.List.{ext_get_or, get_or_past, length-replicate}
+use Rattle.std.proofs.lemmas.List.{ext_get_or, get_or_past}
 use Rattle.std.proofs.lemmas.Bool.{cases_lt}
-use Rattle.finite.specs.Lists.{At}
 use Rattle.relation.specs.declared.relation.Relation.{Relation}
-use Rattle.relation.specs.Relations.{Pairs, Never, Inside}
-use Rattle.relation.specs.Masks.{Related, Shows}
-use Rattle.relation.specs.Climbs.{Climbed, total}
+use Rattle.relation.specs.Relations.{Pairs, Inside}
+use Rattle.relation.specs.Masks.{Related}
+use Rattle.relation.specs.Climbs.{total}
 use Rattle.relation.specs.Alike.{same_rows}
+use Rattle.relation.specs.Bits.{in_nothing}
 use Rattle.relation.specs.Closings.{rows_rise}
 use Rattle.relation.specs.Totals.{total_fits, total_rises}
-use Rattle.given.specs.Bases.{base_meaning}
-use Rattle.term.specs.Statements.{Binding}
 use Rattle.meaning.specs.declared.solving.Solving.{Solving}
-use Rattle.meaning.specs.Operators.{pairs_of}
-use Rattle.meaning.specs.Meanings.{meaning}
-use Rattle.meaning.specs.Groups.{Candidates, told, Solves}
-use Rattle.meaning.specs.Systems.{System, rows_at, Table, before, names, Body, Positive, slots, Least}
+use Rattle.meaning.specs.Systems.{System, rows_at, Table, Body, Positive, slots}
 use Rattle.meaning.specs.Solvings.{SolvingBegins, SolvingSteps, SolvingBelow, SolvingSolves, SolvingAlong, SolvingAlike, solving_height, totals}
-use Rattle.meaning.specs.Placed.{table_past, table_all, candidates, candidates_are, at_below, at_only}
-use Rattle.meaning.specs.Rising.{body_inside, solves_as}
+use Rattle.meaning.specs.Rising.{body_inside}
 use Rattle.meaning.specs.Totals.{totals_fit, totals_same}
-use Rattle.meaning.specs.Rounds.{rounds_keep}
 
--- what the equation of a name gives is what its term means
-body_at : (s : System) (R : ℕ → Pairs) (j : ℕ) (x : Binding) → At s.bindings j x → (a b : ℕ) → Body s R j a b → pairs_of (meaning (base_meaning s.base) (names s R) x.term) a b
-body_at s R j x h a b m = subst (λ y. pairs_of (meaning (base_meaning s.base) (names s R) y.term) a b) (at_only s.bindings j m.0 x m.1 h) m.2
+-- no rows relate nothing
+pub no_rows : {a b : ℕ} → Related [] a b → ⊥
+no_rows {a} {b} r = in_nothing b r.there
+
+-- past its end a table has nothing
+pub table_past : (xs : List Relation) (i : ℕ) → length xs ≤ i → {a b : ℕ} → Table xs i a b → ⊥
+table_past xs i l {a} {b} r = no_rows {a = a} {b = b} (subst (λ x. Related x.rows a b) (get_or_past xs i (record { rows = [] }) l) r)
 
 module _ {E : Type 0} where
   -- values with the same parts are the same
   pub same_solving : {x y : Solving E} → x.equations ≡ y.equations → x.found ≡ y.found → x ≡ y
   same_solving p q = λ i. record { equations = p i; found = q i }
 
-  -- a table of nothing
-  pub solving_bottom : (problem x : Solving E) (r : Relation) → x.equations ≡ problem.equations → x.found ≡ replicate 64 r → Shows r.rows Never → SolvingBegins problem x
-  solving_bottom problem x r p q s =
-      record {
-        equations = p;
-        long = ap length q ∙ length-replicate 64 r;
-        nothing = λ i l. subst⁻¹ (λ xs. Shows (rows_at xs i) Never) q (table_all (λ rows. Shows rows Never) 64 r s i l);
-      }
-
   -- nothing is found at the start
-  begins_empty : (problem x : Solving E) → SolvingBegins problem x → (i a b : ℕ) → Table x.found i a b → ⊥
+  pub begins_empty : (problem x : Solving E) → SolvingBegins problem x → (i a b : ℕ) → Table x.found i a b → ⊥
   begins_empty problem x s i a b r =
       ⊎_elim (λ k. ((s.nothing i k).same a b).0 r) (λ k. table_past x.found i (omega (arith, s.long)) {a = a} {b = b} r) (cases_lt i 64)
 
@@ -131,7 +119,7 @@ module _ {E : Type 0} (system : E → System) where
   solving_least problem x z s solves pos i a b r = absurd (begins_empty problem x s i a b r)
 
   -- a step stays within relations that the equations give nothing else of
-  step_inside : (problem x y : Solving E) → Positive (system problem.equations) → x.equations ≡ problem.equations → SolvingSteps system x y → (R : ℕ → Pairs) → ((i : ℕ) → i < slots (system problem.equations) → Inside (Body (system problem.equations) R i) (R i)) → ((i : ℕ) → Inside (Table x.found i) (R i)) → (i : ℕ) → Inside (Table y.found i) (R i)
+  pub step_inside : (problem x y : Solving E) → Positive (system problem.equations) → x.equations ≡ problem.equations → SolvingSteps system x y → (R : ℕ → Pairs) → ((i : ℕ) → i < slots (system problem.equations) → Inside (Body (system problem.equations) R i) (R i)) → ((i : ℕ) → Inside (Table x.found i) (R i)) → (i : ℕ) → Inside (Table y.found i) (R i)
   step_inside problem x y pos e s R solves below i a b r =
       ⊎_elim
       (λ k.
@@ -153,32 +141,3 @@ module _ {E : Type 0} (system : E → System) where
   pub solving_solved : (problem x : Solving E) → SolvingAlong system problem x → SolvingSteps system x x → SolvingSolves system problem x
   solving_solved problem x l s i k a b m =
       ((s.found i (subst⁻¹ (λ e. i < slots (system e)) l.equations k)).same a b).1 (inr (subst⁻¹ (λ e. Body (system e) (Table x.found) i a b) l.equations m))
-
-  -- the end of the climb is the least solution
-  module _ (problem end : Solving E) (c : Climbed SolvingBegins (SolvingSteps system) (SolvingBelow system) (SolvingSolves system) (SolvingAlong system) problem end) where
-    ends_solution : Positive (system problem.equations) → length (system problem.equations).bindings ≤ 64 → Solves (base_meaning (system problem.equations).base) (before (system problem.equations)) (system problem.equations).bindings (Table end.found)
-    ends_solution pos le j x h a b =
-        let s = system problem.equations in
-        let k : j < slots s = let z = at_below s.bindings j x h in omega arith in
-        (λ r. body_at s (Table end.found) j x h a b (c.along.given pos j k a b r), λ m. c.solution j k a b (x, h, m))
-
-    ends_within : Positive (system problem.equations) → (test : Candidates) → Solves (base_meaning (system problem.equations).base) (before (system problem.equations)) (system problem.equations).bindings (told test) → (j : ℕ) → Inside (Table end.found j) (told test j)
-    ends_within pos test solves =
-        (rounds_keep (λ x. (x.equations ≡ problem.equations) × ((i : ℕ) → Inside (Table x.found i) (told test i)))
-        (c.least.equations, λ i a b r. absurd (begins_empty problem c.start c.least i a b r))
-        (λ x y p s. (s.equations ∙ p.0, step_inside problem x y pos p.0 s (told test) (λ i k a b m. (solves i m.0 m.1 a b).1 m.2) p.1))
-        c.reached).1
-
-    pub solving_done : Least (system problem.equations) end.found
-    solving_done =
-        record {
-          long = c.along.long;
-          solution = ends_solution;
-          within = ends_within;
-          means = λ pos le j a b r test solves. ends_within pos test solves j a b r;
-          covers = λ pos le j a b h.
-              let s = system problem.equations in
-              let found = end.found in
-              (candidates_are found j a b).1
-              (h (candidates found) (solves_as (base_meaning s.base) (before s) s.bindings (Table found) (told (candidates found)) (candidates_are found) (ends_solution pos le)));
-        }

@@ -6,7 +6,7 @@ ghost use Rattle.meaning.specs.Knowns.{Added, Known};
 
 use super::setting::Setting;
 use super::solving::solve;
-use super::values::Values;
+use super::values::{ROOM, Values};
 use given::Base;
 use relation::{Relation, Value};
 use term::Statement;
@@ -36,7 +36,7 @@ fn add_group(base: &Base, bindings: &[Binding], values: &mut Values)
 {
     let known = values.as_slice();
     let found = solve(&Setting { base, known }, bindings);
-    put(&found[..bindings.len().min(64)], values);
+    put(&found[..bindings.len().min(ROOM)], values);
 }
 
 /// Puts the values of a statement's bindings behind those that are known.

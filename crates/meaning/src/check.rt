@@ -17,6 +17,9 @@ use sentence::sign::Word;
 use term::Statement;
 use term::statement::{Check, Mark};
 
+/// How many checks are tried.
+const MOST_CHECKS: u8 = 16;
+
 /// Whether the mark is a flag.
 pub fn is_flag(mark: &Mark) -> bool
     ensures { result ≡ is_flag (mark_of mark.now) }
@@ -69,7 +72,7 @@ fn try_all(setting: &Setting<'_>, statements: &[Statement]) -> Outcome
 {
     let mut outcome = Outcome::none();
     let checks = statements.iter().filter_map(check_in);
-    for (number, check) in (0..16).zip(checks) {
+    for (number, check) in (0..MOST_CHECKS).zip(checks) {
         outcome = outcome.with(number, is_flag(&check.mark), holds(setting, check));
     }
     outcome

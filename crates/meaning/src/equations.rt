@@ -7,6 +7,7 @@ ghost use Rattle.meaning.specs.Systems.{System, Table, Body, slots};
 
 use super::operate::pairs_in;
 use super::setting::Setting;
+use super::values::ROOM;
 use relation::Relation;
 use term::statement::Binding;
 
@@ -20,7 +21,7 @@ pub trait Equations {
         ensures { result ≡ slots (system self.now) };
 
     /// What the equation of a name gives, where the table holds what is found.
-    fn value(&self, found: &[Relation; 64], slot: usize) -> Relation
+    fn value(&self, found: &[Relation; ROOM], slot: usize) -> Relation
         ensures { SamePairs (Related result.rows) (Body (system self.now) (Table found.now) slot) };
 }
 
@@ -36,10 +37,10 @@ impl<'a, 'b> Equations for Group<'a, 'b> {
     ghost system = { λ g. record { base = g.setting.base.now; known = g.setting.known.now; bindings = map binding_of g.bindings.now } };
 
     fn count(&self) -> usize {
-        self.bindings.len().min(64)
+        self.bindings.len().min(ROOM)
     }
 
-    fn value(&self, found: &[Relation; 64], slot: usize) -> Relation {
+    fn value(&self, found: &[Relation; ROOM], slot: usize) -> Relation {
         match self.bindings.get(slot) {
             Some(binding) => {
                 // A copy: where the group's own is lent, each round copies the table once more, a fifth of the time.

@@ -7,6 +7,7 @@ ghost use Rattle.meaning.specs.Solved.{solving_start, solving_onward, solving_ma
 
 use super::equations::{Equations, Group};
 use super::setting::Setting;
+use super::values::ROOM;
 use relation::climb::climb;
 use relation::{Ascent, Relation};
 use term::statement::Binding;
@@ -15,7 +16,7 @@ use term::statement::Binding;
 #[derive(Clone, Copy)]
 pub struct Solving<E> {
     pub equations: E,
-    pub found: [Relation; 64],
+    pub found: [Relation; ROOM],
 }
 
 /// The climb to the least solution.
@@ -51,13 +52,14 @@ impl<E: Equations + Copy> Ascent for Solving<E> {
     fn bottom(&self) -> Solving<E> {
         let equations = self.equations;
         let none = Relation::none();
-        let found = [none; 64];
+        let found = [none; ROOM];
         Solving { equations, found }
     }
 
     fn step(&self) -> Solving<E> {
         let equations = self.equations;
         let mut found = self.found;
+        // By number: while an iterator lends the table, an invariant cannot speak of it.
         for slot in 0..equations.count() {
             found[slot] = self.found[slot].union(equations.value(&self.found, slot));
         }
@@ -73,11 +75,11 @@ impl<E: Equations + Copy> Ascent for Solving<E> {
 }
 
 /// The least solution of a let rec group: what each of its first 64 names is bound to.
-pub fn solve(setting: &Setting<'_>, bindings: &[Binding]) -> [Relation; 64]
+pub fn solve(setting: &Setting<'_>, bindings: &[Binding]) -> [Relation; ROOM]
     ensures { Least (record { base = setting.now.base.now; known = setting.now.known.now; bindings = map binding_of bindings.now }) result }
 {
     let none = Relation::none();
-    let found = [none; 64];
+    let found = [none; ROOM];
     let equations = Group {
         setting: *setting,
         bindings,

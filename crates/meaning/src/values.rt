@@ -4,10 +4,13 @@ ghost use Rattle.std.specs.Prelude.{◌≡◌, ◌<◌, ◌≤◌, [], ◌∷◌
 use relation::Value;
 use std::marker::Model;
 
+/// How many values there is room for.
+pub const ROOM: usize = 64;
+
 /// So many values, at most 64.
 #[derive(Drop)]
 pub struct Values {
-    slots: [Value; 64],
+    slots: [Value; ROOM],
     many: usize,
 }
 
@@ -29,7 +32,7 @@ impl Values {
     {
         let blank = Value::events(0);
         Values {
-            slots: [blank; 64],
+            slots: [blank; ROOM],
             many: 0,
         }
     }
@@ -54,7 +57,7 @@ impl Values {
         ensures room { length self.old < 64 → self.new ≡ self.old ++ value ∷ [] }
         ensures full { 64 ≤ length self.old → self.new ≡ self.old }
     {
-        if self.many < 64 {
+        if self.many < ROOM {
             self.slots[self.many] = value;
             self.many += 1;
         }

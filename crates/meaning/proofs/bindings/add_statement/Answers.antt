@@ -5,9 +5,6 @@ use Rattle.meaning.specs.Knowns.{Added}
 use Rattle.meaning.proofs.Knowing.{added_check}
 use Rattle.meaning.proofs.bindings.add_statement.Goals as goal
 
-pub returns-in-Let : goal.returns-in-Let
-returns-in-Let c = subst⁻¹ (λ s. Added c.args.base.now (statement_of s) c.args.values.now c.add_let.new.values) c.in-Let.is c.add_let.ensures
-
 pub returns-in-Group : goal.returns-in-Group
 returns-in-Group c =
     subst⁻¹ (λ s. Added c.args.base.now (statement_of s) c.args.values.now c.add_group.new.values) c.in-Group.is

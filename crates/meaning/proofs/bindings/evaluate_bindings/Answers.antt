@@ -1,7 +1,5 @@
-use Rattle.std.proofs.Common.{arith}
-use lib.ListN.{length-map}
 use Rattle.term.specs.Statements.{statement_of, statements_of}
-use Rattle.meaning.proofs.Gone.{at_read, going_none, going_more, going_done}
+use Rattle.meaning.proofs.Gone.{at_read, going_none, going_more}
 use Rattle.meaning.proofs.bindings.evaluate_bindings.Goals as goal
 
 pub loop-statement-init : goal.loop-statement-init
@@ -11,8 +9,3 @@ pub loop-statement-preserved : goal.loop-statement-preserved
 loop-statement-preserved c =
     going_more c.args.base.now (statements_of c.args.statements.now) c.loop-statement.statement-index c.loop-statement.values c.add_statement.new.values (statement_of c.statement-item.result)
     (at_read statement_of c.args.statements.now c.loop-statement.statement-index c.statement-item.result c.loop-statement-test.true c.statement-item.is) c.loop-statement.invariant c.add_statement.ensures
-
-pub returns : goal.returns
-returns c =
-    going_done c.args.base.now (statements_of c.args.statements.now) c.loop-statement.statement-index c.loop-statement.values (omega (arith, c.loop-statement-test.false, length-map c.args.statements.now statement_of))
-    c.loop-statement.invariant

@@ -1,7 +1,7 @@
 use mathlib.Core.Path.{subst⁻¹}
 use Rattle.std.proofs.Common.{Decides}
 use Rattle.relation.specs.Masks.{Related}
-use Rattle.term.specs.Statements.{acyclic, irreflexive}
+use Rattle.term.specs.Statements.{acyclic}
 use Rattle.meaning.specs.Operators.{pairs_of}
 use Rattle.meaning.specs.Checks.{Asked}
 use Rattle.meaning.specs.Tables.{value_meaning}
@@ -13,12 +13,3 @@ returns-in-Acyclic c =
     let m = value_meaning c.args.value in
     subst⁻¹ (λ w. Decides c.is_acyclic.result (Asked w m)) c.in-Acyclic.is
     (pairs_asked acyclic c.is_acyclic.result (Related c.pairs_in.result.rows) (pairs_of m) c.pairs_in.ensures c.is_acyclic.ensures)
-
-pub returns-in-Irreflexive : goal.returns-in-Irreflexive
-returns-in-Irreflexive c =
-    let m = value_meaning c.args.value in
-    subst⁻¹ (λ w. Decides c.is_irreflexive.result (Asked w m)) c.in-Irreflexive.is
-    (pairs_asked irreflexive c.is_irreflexive.result (Related c.pairs_in-in-Irreflexive.result.rows) (pairs_of m) c.pairs_in-in-Irreflexive.ensures c.is_irreflexive.ensures)
-
-pub returns-in-Empty : goal.returns-in-Empty
-returns-in-Empty c = subst⁻¹ (λ w. Decides c.is_nothing.result (Asked w (value_meaning c.args.value))) c.in-Empty.is c.is_nothing.ensures

@@ -6,7 +6,7 @@ use Rattle.given.specs.Bases.{base_meaning}
 use Rattle.meaning.specs.Tables.{value_meaning}
 use Rattle.meaning.specs.Outcomes.{Good}
 use Rattle.meaning.proofs.Chains.{picked_road}
-use Rattle.meaning.proofs.Tallying.{claim_at, Turn, turn_at, tally_none, tried_more, tried_all}
+use Rattle.meaning.proofs.Tallying.{claim_at, Turn, turn_at, tried_more, tried_all}
 use Rattle.meaning.proofs.check.try_all.Goals as goal
 use Rattle.meaning.proofs.check.try_all.Goals.{In-Some}
 
@@ -22,9 +22,6 @@ turned c =
     (picked_road _ (λ y. y.now) _ (λ r. claim_of r.now) claim_at _ (λ x r q k. search (rules, tests)) ss (YieldsList-at c.filter_map-checks.ensures.source (YieldsList-from_slice ss c.iter.ensures.rest))
     c.filter_map-checks.ensures.closure))))
     c.loop-number.yielded _ c.loop-number.yielded_by _ _ (c.in-Some.number, c.in-Some.check) c.in-Some.is c.next.ensures.steps)
-
-pub loop-number-init : goal.loop-number-init
-loop-number-init c = tally_none _ c.none-outcome.result c.none-outcome.ensures.failure c.none-outcome.ensures.flags
 
 pub loop-number-preserved : goal.loop-number-preserved
 loop-number-preserved c =

@@ -1,12 +1,8 @@
 use Rattle.relation.specs.Sets.{SameEvents}
 use Rattle.relation.specs.Masks.{Member}
-use Rattle.relation.specs.Bits.{in_nothing}
 use Rattle.meaning.specs.Operators.{events_of}
-use Rattle.meaning.specs.Operated.{by_events, by_pairs}
+use Rattle.meaning.proofs.Operated.{by_events}
 use Rattle.meaning.proofs.operate.events_in.Goals as goal
 
 pub returns-in-Events : goal.returns-in-Events
 returns-in-Events c = by_events (λ m. SameEvents (Member c.args.value.mask) (events_of m)) c.args.value c.in-Events.is (λ n. (λ x. x, λ x. x))
-
-pub returns-in-Pairs : goal.returns-in-Pairs
-returns-in-Pairs c = by_pairs (λ m. SameEvents (Member 0) (events_of m)) c.args.value c.in-Pairs.is (λ n. (in_nothing n, λ x. absurd x))

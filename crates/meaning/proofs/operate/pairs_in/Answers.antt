@@ -3,11 +3,8 @@ use mathlib.Core.Path.{subst⁻¹}
 use Rattle.relation.specs.Relations.{SamePairs}
 use Rattle.relation.specs.Masks.{Related}
 use Rattle.meaning.specs.Operators.{pairs_of}
-use Rattle.meaning.specs.Operated.{by_events, by_pairs}
+use Rattle.meaning.proofs.Operated.{by_pairs}
 use Rattle.meaning.proofs.operate.pairs_in.Goals as goal
-
-pub returns-in-Events : goal.returns-in-Events
-returns-in-Events c = by_events (λ m. SamePairs (Related c.none.result.rows) (pairs_of m)) c.args.value c.in-Events.is c.none.ensures.same
 
 pub returns-in-Pairs : goal.returns-in-Pairs
 returns-in-Pairs c =

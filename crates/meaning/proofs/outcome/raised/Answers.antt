@@ -1,8 +1,5 @@
-use Rattle.meaning.proofs.Tallying.{raised_up, raised_not}
+use Rattle.meaning.proofs.Tallying.{raised_up}
 use Rattle.meaning.proofs.outcome.raised.Goals as goal
 
 pub returns-then-up : goal.returns-then-up
 returns-then-up c = raised_up c.args.flags c.args.number c.args.up c.requires c.if-up.true c.union.ensures
-
-pub returns-else-up : goal.returns-else-up
-returns-else-up c = raised_not c.args.flags c.args.number c.args.up c.if-up.false

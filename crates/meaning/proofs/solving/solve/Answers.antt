@@ -1,4 +1,4 @@
-use Rattle.meaning.specs.Solved.{solving_done}
+use Rattle.meaning.proofs.Ended.{solving_done}
 use Rattle.meaning.proofs.solving.solve.Goals as goal
 
 pub returns : goal.returns

@@ -1,7 +1,7 @@
 use Rattle.std.proofs.Common.{ap}
 use Rattle.term.specs.Terms.{term_of}
 use Rattle.term.proofs.Shapes.{shape_test, shape_complement, shape_ended, shape_joined}
-use Rattle.meaning.specs.Evaluated.{given_means, bound_means, unbound_means, test_means, complement_means, ended_means, joined_means}
+use Rattle.meaning.proofs.Evaluated.{given_means, bound_means, unbound_means, test_means, complement_means, ended_means, joined_means}
 use Rattle.meaning.proofs.setting.Setting.+evaluate.Goals as goal
 
 pub returns-in-Given : goal.returns-in-Given

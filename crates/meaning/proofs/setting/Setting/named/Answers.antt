@@ -2,7 +2,7 @@ use Rattle.std.proofs.Common.{ap, ◌∙◌, subst, arith}
 use Rattle.std.specs.Option.{unwrap_or}
 use Rattle.relation.specs.Values.{Means}
 use Rattle.meaning.specs.Tables.{relation_meaning}
-use Rattle.meaning.specs.Evaluated.{known_at, found_means}
+use Rattle.meaning.proofs.Evaluated.{known_at, found_means}
 use Rattle.meaning.proofs.setting.Setting.named.Goals as goal
 
 pub returns-in-Some : goal.returns-in-Some

@@ -1,5 +1,5 @@
 use Rattle.std.proofs.Common.{refl}
-use Rattle.meaning.specs.Solved.{solving_bottom}
+use Rattle.meaning.proofs.Ended.{solving_bottom}
 use Rattle.meaning.proofs.solving.SolvingAscent.bottom.Goals as goal
 
 pub returns : goal.returns

@@ -1,6 +1,6 @@
 use Rattle.relation.specs.Relations.{Union}
 use Rattle.meaning.specs.Systems.{Table, Body}
-use Rattle.meaning.specs.Placed.{Filling}
+use Rattle.meaning.proofs.Placed.{Filling}
 use Rattle.meaning.proofs.solving.SolvingAscent.step.Given as goal
 
 abbrev pub invariant-loop-slot : goal.invariant-loop-slot

@@ -1,25 +1,16 @@
 -- Tables of relations, and the places of lists. Assumes nothing.
 use Rattle.std.specs.Prelude.{◌≡◌, ℕ, zero, suc, ◌+◌, ◌<◌, ◌≤◌, ◌&&◌, List, [], ◌∷◌, map, length, replicate, ◌==◌, nat_lt, slice_index, slice_index_or, slice_set, refl}
-use Rattle.std.proofs.Common.{sym, ◌∙◌, ap, subst, inl, inr, ⊎_elim, arith}
+use Rattle.std.proofs.Common.{sym, ◌∙◌, ap, inl, inr, ⊎_elim, arith}
 use Rattle.std.proofs.Math.Path.{subst⁻¹}
 use Rattle.std.proofs.Math.Logic.Iff
-use Rattle.std.proofs.lemmas.List.{get_or_past, get_or-replicate, get_or-set_same, get_or-set_other, length-set}
+use Rattle.std.proofs.lemmas.List.{get_or-replicate, get_or-set_same, get_or-set_other, length-set}
 use Rattle.std.proofs.lemmas.Bool.{cases_eq, and_parts, and_from, ltb-true, lt-ltb, eqb-true, eq-eqb}
 use Rattle.finite.specs.Lists.{At}
 use Rattle.relation.specs.declared.relation.Relation.{Relation}
 use Rattle.relation.specs.Relations.{Pairs, Union, SamePairs}
 use Rattle.relation.specs.Masks.{bit, Related, Shows}
-use Rattle.relation.specs.Bits.{in_nothing}
 use Rattle.meaning.specs.Groups.{Candidates, told}
 use Rattle.meaning.specs.Systems.{rows_at, Table}
-
--- no rows relate nothing
-pub no_rows : {a b : ℕ} → Related [] a b → ⊥
-no_rows {a} {b} r = in_nothing b r.there
-
--- past its end a table has nothing
-pub table_past : (xs : List Relation) (i : ℕ) → length xs ≤ i → {a b : ℕ} → Table xs i a b → ⊥
-table_past xs i l {a} {b} r = no_rows {a = a} {b = b} (subst (λ x. Related x.rows a b) (get_or_past xs i (record { rows = [] }) l) r)
 
 -- a table of one relation, so many times
 pub table_all : (P : List ℕ → Type 0) (n : ℕ) (r : Relation) → P r.rows → (i : ℕ) → i < n → P (rows_at (replicate n r) i)

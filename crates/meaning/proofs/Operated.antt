@@ -5,7 +5,12 @@ use Rattle.std.proofs.Math.Logic.Iff
 use Rattle.relation.specs.declared.value.Value.{Value}
 use Rattle.relation.specs.declared.value.Kind.{Kind}
 use Rattle.relation.specs.declared.value.Kind.TheVariants.{Events as is_events, Pairs as is_pairs}
-use Rattle.relation.specs.Relations.{Pairs, SamePairs}
+use Rattle.relation.specs.Sets.{Events}
+use Rattle.relation.specs.Relations.{Pairs, SamePairs, Path, Star, Maybe, Inverse}
+use Rattle.sentence.specs.declared.sign.Post.{Post}
+use Rattle.sentence.specs.declared.sign.Post.TheVariants as post
+use Rattle.meaning.specs.Operators.{pairs_of, postfixed}
+use Rattle.meaning.specs.Sameness.{postfixed_same}
 use Rattle.relation.specs.Masks.{Member, Related, Shows}
 use Rattle.relation.specs.Values.{Meaning, of_events, of_pairs, Means}
 use Rattle.given.specs.Bases.{Same}
@@ -42,3 +47,13 @@ means_self v = by_tag v.kind v refl
 -- a relation that was computed, for one with the same pairs
 pub pairs_made : (v : Value) {rows : List ℕ} (R S : Pairs) → Means v (of_pairs (Related rows)) → Shows rows R → SamePairs R S → Means v (of_pairs S)
 pairs_made v R S h s e = (h.0, λ a b. Iff.trans (h.1 a b) (Iff.trans (s.same a b) (e a b)))
+
+-- a sign behind an operand, by the rows of a relation that has the operand's pairs
+postfixed_at : (U : Events) (p : Post) (v : Value) {rows : List ℕ} (R : Pairs) (m : Meaning) → Means v (of_pairs (Related rows)) → Shows rows (pairs_of (postfixed U p (of_pairs R))) → SamePairs R (pairs_of m) → Means v (postfixed U p m)
+postfixed_at U post.Plus v R m h s e = pairs_made v (Path R) (Path (pairs_of m)) h s (postfixed_same U post.Plus (of_pairs R) (of_pairs (pairs_of m)) e)
+postfixed_at U post.Closure v R m h s e = pairs_made v (Star U R) (Star U (pairs_of m)) h s (postfixed_same U post.Closure (of_pairs R) (of_pairs (pairs_of m)) e)
+postfixed_at U post.Question v R m h s e = pairs_made v (Maybe U R) (Maybe U (pairs_of m)) h s (postfixed_same U post.Question (of_pairs R) (of_pairs (pairs_of m)) e)
+postfixed_at U post.Inverse v R m h s e = pairs_made v (Inverse R) (Inverse (pairs_of m)) h s (postfixed_same U post.Inverse (of_pairs R) (of_pairs (pairs_of m)) e)
+
+pub postfixed_made : (U : Events) (p : Post) {q : Post} → q ≡ p → (v : Value) {rows : List ℕ} (R : Pairs) (m : Meaning) → Means v (of_pairs (Related rows)) → Shows rows (pairs_of (postfixed U p (of_pairs R))) → SamePairs R (pairs_of m) → Means v (postfixed U q m)
+postfixed_made U p e v R m h s same = subst⁻¹ (λ q. Means v (postfixed U q m)) e (postfixed_at U p v R m h s same)

@@ -1,11 +1,12 @@
 -- The value of a term by its shape, and names by their numbers. Assumes nothing.
-use Rattle.std.specs.Prelude.{◌≡◌, ℕ, zero, suc, ◌-◌, ◌<◌, ◌≤◌, List, [], ◌∷◌, ◌++◌, map, length, get_or, slice_index_or, refl}
+use Rattle.std.specs.Prelude.{◌≡◌, ℕ, zero, suc, ◌-◌, ◌<◌, ◌≤◌, List, [], ◌∷◌, ◌++◌, map, length, get_or, slice_index_or}
 use Rattle.std.proofs.Common.{◌∙◌, ap, subst, arith}
 use Rattle.std.proofs.Math.Path.{subst⁻¹}
 use Rattle.std.proofs.lemmas.List.{length-map}
 use Rattle.relation.specs.declared.relation.Relation.{Relation}
 use Rattle.relation.specs.declared.value.Value.{Value}
 use Rattle.relation.specs.Relations.{Never}
+use Rattle.meaning.specs.Rising.{never}
 use Rattle.relation.specs.Masks.{Related, Shows}
 use Rattle.relation.specs.Values.{Meaning, of_pairs, Means}
 use Rattle.term.specs.declared.term.Given.{Given}
@@ -16,11 +17,19 @@ use Rattle.meaning.specs.Meanings.{Base, meaning}
 use Rattle.meaning.specs.Tables.{value_meaning, relation_meaning}
 use Rattle.given.specs.Bases.{Same}
 use Rattle.meaning.specs.Sameness.{same_self, infixed_same, postfixed_same, outside_same, tested_same}
-use Rattle.meaning.specs.Operated.{means_self, means_same, means_as, pairs_made}
+use Rattle.meaning.proofs.Operated.{means_self, means_same, means_as, pairs_made}
 
--- what a name without a binding means
-abbrev pub never : Meaning
-never = of_pairs Never
+-- a term means the same where its names do
+pub meaning_same : (base : Base) (ns ms : List Meaning) → ((i : ℕ) → Same (slice_index_or ns i never) (slice_index_or ms i never)) → (t : Term) → Same (meaning base ns t) (meaning base ms t)
+unfolding meaning
+meaning_same base ns ms h (given g) = same_self (base g)
+meaning_same base ns ms h (bound k i) = h i
+meaning_same base ns ms h (unbound k) = same_self never
+meaning_same base ns ms h (test k t) = tested_same (meaning base ns t) (meaning base ms t) (meaning_same base ns ms h t)
+meaning_same base ns ms h (complement t) = outside_same (events_of (base Universe)) (meaning base ns t) (meaning base ms t) (meaning_same base ns ms h t)
+meaning_same base ns ms h (ended k p t) = postfixed_same (events_of (base Universe)) p (meaning base ns t) (meaning base ms t) (meaning_same base ns ms h t)
+meaning_same base ns ms h (joined k i l r) =
+    infixed_same i (meaning base ns l) (meaning base ms l) (meaning base ns r) (meaning base ms r) (meaning_same base ns ms h l) (meaning_same base ns ms h r)
 
 -- a name that is known
 pub known_at : (v : Value) (vs : List Value) (ms : List Meaning) (i : ℕ) → i < length vs → v ≡ slice_index_or vs i v → Means v (slice_index_or (map value_meaning vs ++ ms) i never)
@@ -39,12 +48,6 @@ found_at : (rs : List Relation) (n : ℕ) (d : Relation) → Shows d.rows Never 
 found_at [] n d s = s.same
 found_at (r ∷ rs) zero d s = same_self (relation_meaning r)
 found_at (r ∷ rs) (suc n) d s = found_at rs n d s
-
--- past the end of a table
-pub past_at : (ms : List Meaning) (n : ℕ) → length ms ≤ n → slice_index_or ms n never ≡ never
-past_at [] n l = refl
-past_at (m ∷ ms) zero l = absurd (omega arith)
-past_at (m ∷ ms) (suc n) l = past_at ms n (omega arith)
 
 -- the value of a name behind those that are known
 pub found_means : (v : Value) (vs : List Value) (rs : List Relation) (i : ℕ) (d : Relation) → length vs ≤ i → Shows d.rows Never → Means v (relation_meaning (slice_index_or rs (i - length vs) d)) → Means v (slice_index_or (map value_meaning vs ++ map relation_meaning rs) i never)
