@@ -1,7 +1,6 @@
 -- Names that are denied in their group: in a term by its shape, and as a loop goes through bindings and statements, counting bindings. Assumes nothing.
 use Rattle.std.proofs.Common.{◌≡◌, ℕ, ◌+◌, ◌*◌, ◌<◌, ◌≤◌, min, Bool, true, false, ◌&&◌, ◌||◌, List, ◌++◌, map, length, get_or, drop, None, Option, Vec, Box, ◌⊎◌, sym, refl, ap, ◌∙◌, inl, inr, arith}
 use borrow.Author.Tests.{clash}
-use lib.ListN.{length-map}
 use Rattle.std.specs.List.{filter_map, reduce}
 use Rattle.term.specs.declared.statement.Binding as program_binding
 use Rattle.term.specs.declared.statement.Statement as program
@@ -12,7 +11,7 @@ use Rattle.term.specs.declared.term.Term.{Test, Ended}
 use Rattle.std.specs.declared.alloc.Global.{Global}
 use Rattle.term.specs.Least.{least, lower, fault_if}
 use Rattle.term.specs.Terms.{Term, Given, Post, Infix, given, bound, unbound, test, complement, ended, joined, term_of}
-use Rattle.term.specs.Statements.{Statement, groups, binding_of, statement_of, statements_of}
+use Rattle.term.specs.Statements.{binding_of, statement_of, statements_of}
 use Rattle.term.specs.Recursion.{of_group, denies_right, denied, group_denied, binds, statement_denied, all_denied}
 use Rattle.term.proofs.Shapes.{shape_test, shape_ended}
 use Rattle.term.proofs.Lowering.{least_none, least_both, lowest_items, Rest, rest_turn, rest_end}
@@ -82,16 +81,6 @@ denied_inside first many under (inr (k, p, is)) e h = denied_ended first many un
 pub group_least : {r : Option ℕ} (first : ℕ) (bs : List program_binding.Binding) → r ≡ reduce min (filter_map (λ b. least (denied first (length bs) false (term_of b.term))) bs) → r ≡ least (group_denied first (length bs) (map binding_of bs))
 unfolding group_denied
 group_least first bs h = lowest_items (λ b. denied first (length bs) false (term_of b.term)) (λ l. group_denied first (length bs) (map binding_of l)) refl (λ b l. refl) bs h
-
--- the bindings of a group, and the names that are denied in it
-pub binds_group : {u : Statement} {n m : ℕ} (bs : List program_binding.Binding) → u ≡ groups (map binding_of bs) → n ≡ m → m ≡ length bs → n ≡ binds u
-binds_group bs is e f = e ∙ f ∙ sym (length-map bs binding_of) ∙ ap binds (sym is)
-
-pub denied_group : {u : Statement} {r : Option ℕ} (n : ℕ) (bs : List program_binding.Binding) {items : List program_binding.Binding} → u ≡ groups (map binding_of bs) → items ≡ bs →
-    r ≡ least (group_denied n (length items) (map binding_of items)) → r ≡ least (statement_denied n u)
-denied_group n bs is e h =
-    h ∙ ap (λ l. least (group_denied n (length l) (map binding_of l))) e ∙ ap (λ k. least (group_denied n k (map binding_of bs))) (sym (length-map bs binding_of))
-    ∙ ap (λ w. least (statement_denied n w)) (sym is)
 
 -- what is left of the statements, with so many bindings before it, which are few enough for 128 bits
 pub record Counted (n : ℕ) (fault : Option ℕ) (i : ℕ) (ss : List program.Statement) : Type 0 where

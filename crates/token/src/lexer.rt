@@ -42,6 +42,7 @@ fn gather<'a>(heap: Global, text: &'a [u8]) -> Result<Vec<Lexeme<'a>>, ReadFault
 {
     let mut found = Ok(Vec::new(heap));
     let mut place = 0;
+    // The place goes on by the length of a piece, which no iterator of the library does.
     while place < text.len() {
         let Some(piece) = piece_of(&text[place..]) else {
             return Err(ReadFault::Stray { place });
