@@ -5,7 +5,8 @@ use Rattle.std.proofs.lemmas.List.{length_push, get_or_push, get_or_append_left}
 use Rattle.std.proofs.lemmas.Bool.Decides.{Decides-eqb, Decides-and, Decides-or}
 use mathlib.Core.List.{map-id}
 use Rattle.std.specs.List.{filter, range_with_len}
-use Rattle.std.proofs.lemmas.List.FromFn.{filter_of_map_range_with_len_more}
+use Rattle.std.proofs.lemmas.List.FromFn.{map-range_with_len_more}
+use Rattle.std.proofs.lemmas.List.Elements.{filter-append}
 use Rattle.finite.specs.Lists.{In, Apart}
 use Rattle.finite.specs.Counts.{count_below}
 use Rattle.coherence.specs.Perms.{Sorted, Rising}
@@ -234,13 +235,18 @@ unfolding those count_below
 those_length p zero = refl
 those_length p (suc n) = those_step n (count_below p n) (those p n) (p n) (those_length p n)
 
+-- a range of one number more
+pub range_more : (n : ℕ) → range_with_len 0 (suc n) ≡ range_with_len 0 n ++ (n ∷ [])
+range_more n =
+    ap (range_with_len 0) (sym (add-one n)) ∙ sym (map-id (range_with_len 0 (n + 1))) ∙ map-range_with_len_more (λ k. k) 0 n n (omega arith)
+    ∙ ap (λ xs. xs ++ (n ∷ [])) (map-id (range_with_len 0 n))
+
 -- they are the library's numbers of a range that pass
 pub those_filter : (p : ℕ → Bool) (n : ℕ) → those p n ≡ filter p (range_with_len 0 n)
 unfolding those
 those_filter p zero = refl
 those_filter p (suc n) =
-    ap (λ xs. xs ++ cond (p n) (n ∷ []) []) (those_filter p n ∙ ap (filter p) (sym (map-id (range_with_len 0 n))))
-    ∙ sym (filter_of_map_range_with_len_more p (λ k. k) 0 n n (omega arith)) ∙ ap (filter p) (map-id (range_with_len 0 (n + 1)) ∙ ap (range_with_len 0) (add-one n))
+    ap (λ xs. xs ++ cond (p n) (n ∷ []) []) (those_filter p n) ∙ sym (ap (filter p) (range_more n) ∙ filter-append p (range_with_len 0 n) (n ∷ []))
 
 -- a number that passes stands at the place that the lower ones leave
 those_place : (p : ℕ → Bool) (n m : ℕ) → n < m → p n ≡ true → (length (those p n) < length (those p m)) × (get_or (those p m) (length (those p n)) 0 ≡ n)

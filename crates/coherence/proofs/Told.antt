@@ -1,8 +1,11 @@
 -- What the code tells is right: the rows show the order of the number, and the count is the product. Assumes nothing.
-use Rattle.std.proofs.Common.{◌≡◌, ℕ, zero, suc, ◌+◌, ◌*◌, ◌/◌, ◌%◌, ◌<◌, ◌≤◌, min, Bool, true, false, cond, ◌||◌, List, [], ◌∷◌, ◌++◌, length, get_or, drop, set, replicate, sym, refl, ap, ◌∙◌, subst, ap₂, inl, inr, ⊎_elim, append_assoc, append-nil, mul-pos, div-le_self, add-one, arith, length-set}
-use Rattle.std.proofs.lemmas.Bool.{cases_Bool, cases_lt}
+use Rattle.std.proofs.Common.{◌≡◌, ℕ, zero, suc, ◌*◌, ◌/◌, ◌%◌, ◌<◌, ◌≤◌, min, Bool, true, false, cond, ◌||◌, leb, List, [], ◌∷◌, ◌++◌, length, get_or, drop, set, replicate, sym, refl, ap, ◌∙◌, subst, ap₂, inl, inr, ⊎_elim, append_assoc, append-nil, mul-pos, div-le_self, add-one, arith, length-set}
+use Rattle.std.proofs.lemmas.Bool.{cases_Bool, cases_lt, leb-true, leb-false}
 use Rattle.std.proofs.lemmas.List.{get_or-replicate, get_or_past, length-replicate, drop_all, drop-set}
 use Rattle.std.proofs.lemmas.Bool.Decides.{Decides-or, Decides-like, Decides-at, Decides-below_or, same_from_decides}
+use Rattle.std.specs.List.{fold, range_with_len}
+use Rattle.std.specs.Bool.{then_some}
+use Rattle.std.proofs.lemmas.List.Sums.{fold-append}
 use Rattle.run.specs.Runs.{Run}
 use Rattle.run.specs.Tests.{any_below}
 use Rattle.finite.specs.Lists.{In}
@@ -14,11 +17,11 @@ use Rattle.coherence.specs.Lines.{chosen, group, line, member, precedes, order_o
 use Rattle.coherence.specs.Digits.{digits_of, excess, ways, row_by, order_at}
 use Rattle.coherence.specs.Masks.{has, mask_of, Shown}
 use Rattle.coherence.specs.Laying.{capped, writes_mask, rows_at}
-use Rattle.coherence.specs.Answers.{Has, Gives}
+use Rattle.coherence.specs.Answers.{Has, Told, Gives}
 use Rattle.coherence.proofs.Perms.{factorial_pos}
 use Rattle.coherence.proofs.Mixed.{digits_below, digits_le, excess_none, excess_below}
 use Rattle.coherence.proofs.Caps.{capped_div, capped_mod, capped_product}
-use Rattle.coherence.proofs.Rows.{in_append, in_left, in_right, precedes_left, precedes_decided, member_decided}
+use Rattle.coherence.proofs.Rows.{range_more, in_append, in_left, in_right, precedes_left, precedes_decided, member_decided}
 use Rattle.coherence.proofs.Masks.{has_none, has_or, mask_decided, precedes_not, laid_length, laid_row}
 use Rattle.coherence.proofs.Groups.{free_lines, line_writes, line_apart}
 use Rattle.coherence.proofs.Orders.{order_decided, one_location}
@@ -190,22 +193,35 @@ pub product_none : (run : Run) → 1 ≡ min (product (ways run) 0) 5041
 unfolding product
 product_none run = refl
 
-pub product_more : (run : Run) (m total w : ℕ) → total ≡ min (product (ways run) m) 5041 → w ≡ capped (ways run m) → min (total * w) 5041 ≡ min (product (ways run) (m + 1)) 5041
+product_more : (run : Run) (m total w : ℕ) → total ≡ min (product (ways run) m) 5041 → w ≡ capped (ways run m) → min (total * w) 5041 ≡ min (product (ways run) (suc m)) 5041
 unfolding product
 product_more run m total w e f =
-    ap₂ (λ a b. min (a * b) 5041) e f ∙ capped_product (product (ways run) m) (ways run m) (product_pos run m) (factorial_pos (length (group Free run m))) ∙ ap (λ k. min (product (ways run) k) 5041) (sym (add-one m))
+    ap₂ (λ a b. min (a * b) 5041) e f ∙ capped_product (product (ways run) m) (ways run m) (product_pos run m) (factorial_pos (length (group Free run m)))
+
+-- one location more
+abbrev pub times : Run → ℕ → ℕ → ℕ
+times run total l = min (min (total * capped (ways run l)) 4294967295) 5041
+
+pub product_folded : (run : Run) (n : ℕ) → fold (times run) 1 (range_with_len 0 n) ≡ min (product (ways run) n) 5041
+product_folded run zero = product_none run
+product_folded run (suc n) =
+    let before = product_folded run n in
+    let more = product_more run n (min (product (ways run) n) 5041) (capped (ways run n)) refl refl in
+    ap (fold (times run) 1) (range_more n) ∙ fold-append (times run) 1 (range_with_len 0 n) (n ∷ []) ∙ ap (λ t. times run t n) before ∙ omega (arith, more)
 
 -- the count has been told
 pub has_orders : (run : Run) → Has run (product (ways run) 16)
 has_orders run = record { product = orders_have run; count = λ sound. counted_law run (product (ways run) 16) sound (orders_have run) }
 
-pub told_over : (run : Run) (total : ℕ) → total ≡ min (product (ways run) 16) 5041 → 5040 < total → (n : ℕ) × Has run n × (5040 < n)
-told_over run total e over = (product (ways run) 16, has_orders run, omega arith)
-
-pub told_within : (run : Run) (total n : ℕ) → total ≡ min (product (ways run) 16) 5041 → total ≤ 5040 → n ≡ total → Has run n × (n ≤ 5040)
-told_within run total n e within same =
-    let whole : product (ways run) 16 ≡ n = omega arith in
-    (subst (Has run) whole (has_orders run), omega arith)
+pub told : (run : Run) (total : ℕ) → total ≡ min (product (ways run) 16) 5041 → Told run (then_some (leb total 5040) total)
+told run total e = at (leb total 5040) refl
+  where
+    at : (t : Bool) → leb total 5040 ≡ t → Told run (then_some t total)
+    at true is =
+        let within = leb-true total 5040 is in
+        let whole : product (ways run) 16 ≡ total = omega arith in
+        (subst (Has run) whole (has_orders run), within)
+    at false is = let over = leb-false total 5040 is in (product (ways run) 16, has_orders run, omega (arith, over))
 
 -- the digits of a number of 16 bits are below their radices, and below the cap
 pub digits_fit : (run : Run) (n : ℕ) (digits : List ℕ) → digits ≡ digits_of (ways run) n 16 → (l : ℕ) → l < 16 → get_or digits l 0 < ways run l

@@ -26,15 +26,10 @@ fn ways(events: &Snapshot, location: u8) -> u32
 pub fn count_orders(events: &Snapshot) -> Option<u16>
     ensures { Told (table_run events.now.events) result }
 {
-    let mut total = 1;
-    for location in 0..16u8 {
-        total = (total * ways(events, location)).min(OVER);
-    }
-    if total > LIMIT {
-        None
-    } else {
-        Some(total as u16)
-    }
+    let total = (0..16u8).fold(1u32, |total, location| {
+        total.saturating_mul(ways(events, location)).min(OVER)
+    });
+    (total <= LIMIT).then_some(total as u16)
 }
 
 /// Splits a number into the digits of the locations; gives what is left above them.
@@ -51,6 +46,7 @@ fn split(events: &Snapshot, number: u16, digits: &mut [u32; 16]) -> u32
     rest
 }
 
+// The order lies in a place that the caller lends, so the answer is a flag and no array.
 /// Writes the coherence order of a number into the place, from a write to every later one of its location, and says whether the run has one; if not, nothing is changed.
 pub fn nth_order(events: &Snapshot, number: u16, place: &mut Relation) -> bool
     ensures { Gives (table_run events.now.events) number place.old.rows place.new.rows result }

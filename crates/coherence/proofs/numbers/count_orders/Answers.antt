@@ -1,29 +1,23 @@
-use Rattle.std.proofs.Common.{min, refl, ap, ◌∙◌, arith, rules}
-use Rattle.std.proofs.lemmas.Nat.{mul-le}
+use Rattle.std.proofs.Common.{◌≡◌, min, refl, sym, ◌∙◌, subst, rules}
+use Rattle.std.proofs.lemmas.Iterator.{YieldsList-from_range}
+use Rattle.std.proofs.lemmas.Iterator.Consumers.{fold_from_yields_List}
 use Rattle.run.specs.Tests.{table_run}
 use Rattle.coherence.specs.Numbers.{product}
 use Rattle.coherence.specs.Digits.{ways}
-use Rattle.coherence.proofs.Told.{product_none, product_more, told_over, told_within}
+use Rattle.coherence.specs.Answers.{Told}
+use Rattle.coherence.proofs.Told.{times, product_folded, told}
 use Rattle.coherence.proofs.numbers.count_orders.Goals as goal
 
-pub loop-location-init : goal.loop-location-init
-loop-location-init c = product_none (table_run c.args.events.now.events)
-
-pub overflow_mul-total : goal.overflow_mul-total
-overflow_mul-total c =
-    let most = mul-le c.loop-location.total c.ways.result 5041 362880 (omega (arith, c.loop-location.invariant)) (omega (arith, c.ways.ensures.value)) in
+pub overflow_cast-total : goal.overflow_cast-total
+overflow_cast-total c =
+    let total : c.fold-total.result ≡ min (product (ways (table_run c.args.events.now.events)) 16) 5041 =
+        fold_from_yields_List _ (times (table_run c.args.events.now.events)) 1 _ c.fold-total.ensures.ran (YieldsList-from_range 0 16 16 refl refl) (λ a x b q h. search rules)
+        ∙ product_folded (table_run c.args.events.now.events) 16 in
     search rules
 
-pub loop-location-preserved : goal.loop-location-preserved
-loop-location-preserved c =
-    c.min-total.ensures ∙ product_more (table_run c.args.events.now.events) c.loop-location.location c.loop-location.total c.ways.result c.loop-location.invariant c.ways.ensures.value
-
-pub returns-then-total-gt-LIMIT : goal.returns-then-total-gt-LIMIT
-returns-then-total-gt-LIMIT c =
-    told_over (table_run c.args.events.now.events) c.loop-location.total
-    (c.loop-location.invariant ∙ ap (λ m. min (product (ways (table_run c.args.events.now.events)) m) 5041) (omega arith)) (omega (arith, c.if-total-gt-LIMIT.true))
-
-pub returns-else-total-gt-LIMIT : goal.returns-else-total-gt-LIMIT
-returns-else-total-gt-LIMIT c =
-    told_within (table_run c.args.events.now.events) c.loop-location.total c.loop-location.total
-    (c.loop-location.invariant ∙ ap (λ m. min (product (ways (table_run c.args.events.now.events)) m) 5041) (omega arith)) (omega (arith, c.if-total-gt-LIMIT.false)) refl
+pub returns : goal.returns
+returns c =
+    let total : c.fold-total.result ≡ min (product (ways (table_run c.args.events.now.events)) 16) 5041 =
+        fold_from_yields_List _ (times (table_run c.args.events.now.events)) 1 _ c.fold-total.ensures.ran (YieldsList-from_range 0 16 16 refl refl) (λ a x b q h. search rules)
+        ∙ product_folded (table_run c.args.events.now.events) 16 in
+    subst (Told (table_run c.args.events.now.events)) (sym c.then_some.ensures) (told (table_run c.args.events.now.events) c.fold-total.result total)
