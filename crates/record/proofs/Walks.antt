@@ -1,6 +1,6 @@
 -- The reader's walk: the calls whose fields stand one behind another, and what the code makes of them. Assumes nothing.
-use Rattle.std.proofs.Common.{◌≡◌, ℕ, zero, suc, ◌+◌, ◌-◌, ◌≤◌, List, [], ◌∷◌, ◌++◌, length, drop, Some, None, Ok, Err, Option, sym, refl, ap, ◌∙◌, append_assoc, arith, length-append, length-drop}
-use Rattle.std.proofs.lemmas.List.{drop-drop}
+use Rattle.std.proofs.Common.{◌≡◌, ℕ, zero, suc, ◌+◌, ◌-◌, ◌≤◌, List, [], ◌∷◌, ◌++◌, length, drop, take, Some, None, Ok, Err, Option, sym, refl, ap, ◌∙◌, append_assoc, arith, length-append, length-drop}
+use Rattle.std.proofs.lemmas.List.{drop-drop, take_rest}
 use Rattle.std.proofs.lemmas.List.Sums.{sum_by-cons}
 use Rattle.bench.specs.declared.action.Action.{Action}
 use Rattle.bench.specs.declared.fault.BenchFault.{BenchFault}
@@ -71,6 +71,10 @@ module _ (bytes : List ℕ) (at : ℕ) where
       let same = enough (length rest - 1) (length (drop n rest)) (at + n) (drop n rest) (omega (arith, length-drop n rest, spell_long a)) (omega arith) in
       ap (λ k. placed_calls k at rest) turns ∙ walk_goes (length rest - 1) at rest a found
       ∙ ap (λ calls. (at, a) ∷ calls) (same ∙ ap (λ l. placed_calls (length l) (at + n) l) (drop-drop n at bytes))
+
+-- what the code's own look at the rest behind a place finds there
+pub looked : (bytes : List ℕ) (at : ℕ) (found call : Option Action) → found ≡ call_at (take (length bytes - at) (drop at bytes)) → found ≡ call → call_at (drop at bytes) ≡ call
+looked bytes at found call is was = ap call_at (sym (take_rest bytes at)) ∙ sym is ∙ was
 
 -- the fields of the calls lie within the bytes
 pub walk_within : (turns at : ℕ) (rest : List ℕ) → behind (placed_calls turns at rest) ≤ length rest

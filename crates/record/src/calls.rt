@@ -86,6 +86,8 @@ impl<'a> Iterator for Calls<'a> {
 
     ghost remaining = { item_count left };
 
+    // Inlined, for each ask of a record goes through its calls anew.
+    #[inline(always)]
     fn next(&mut self) -> Option<(usize, Action)> {
         let place = self.at;
         let call = call_at(&self.bytes[place..])?;

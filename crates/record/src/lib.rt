@@ -1,9 +1,9 @@
 //! Records: the bytes of a run, their reader and their writer.
 #![tactic(auto)]
 
-pub mod calls;
+mod calls;
 pub mod fault;
-pub mod format;
+mod format;
 pub mod read;
 pub mod writer;
 

@@ -1,5 +1,5 @@
 //! Reading a record: first the shape of every field, then the calls.
-ghost use Rattle.std.specs.Prelude.{◌≡◌, ◌≤◌, length, IfOk, None, MatchResult};
+ghost use Rattle.std.specs.Prelude.{◌≡◌, ◌≤◌, length, IfOk, MatchResult};
 ghost use Rattle.record.specs.Reading.{calls_of, behind, misfit, call_fault, reached, record_run, shape_fault, read_fault, checked};
 ghost use Rattle.record.specs.Readings.{Read, Faulty, OneReading, OneRun};
 ghost use Rattle.bench.specs.Benches.{bench_run};
@@ -38,9 +38,9 @@ fn replay(bytes: &[u8], bench: &mut Bench) -> Result<(), RecordFault>
     ensures run { bench_run bench.new ≡ reached (bench_run bench.old) (calls_of bytes.now) }
 {
     for (place, call) in Calls::of(bytes) {
-        if let Err(fault) = bench.act(call) {
-            return Err(RecordFault::Call { place, fault });
-        }
+        bench
+            .act(call)
+            .map_err(|fault| RecordFault::Call { place, fault })?;
     }
     Ok(())
 }

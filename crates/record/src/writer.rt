@@ -16,6 +16,8 @@ use bench::{Action, Bench, Entry};
 use run::{Event, Snapshot};
 
 /// Writes a text over the bytes from a place on, and tells the place behind it.
+// The place stays a number beside the caller's buffer: in a struct of the two, each method would have to say as well
+// that it still holds that buffer, a clause more at every step.
 fn paste(out: &mut [u8], at: usize, text: &[u8]) -> usize
     requires { at + length text.now ≤ length out.old }
     ensures { Placed out.old at text.now result out.new }

@@ -14,11 +14,8 @@ fn load(rt: &HostRuntime, path: &str, limit: u64) -> io::Result<Vec<u8>> {
         Ok(file) => {
             file.take(limit.saturating_add(1)).read_to_end(&mut bytes)?;
         }
-        Err(e) => {
-            if e.kind() != ErrorKind::NotFound {
-                return Err(e);
-            }
-        }
+        Err(e) if e.kind() == ErrorKind::NotFound => {}
+        Err(e) => return Err(e),
     }
     Ok(bytes)
 }

@@ -13,23 +13,16 @@ sum-requires-clause-fits c =
     let calls = calls_of c.args.bytes.now in
     let size = λ (call : ℕ × Action). length (spell call.1) in
     let within : behind calls ≤ length c.args.bytes.now = walk_within (length c.args.bytes.now) 0 c.args.bytes.now in
-    fits_by_from_yields_list size calls c.map.result _
+    fits_by_from_yields_list size calls c.map.result 18446744073709551616
     (YieldsList-from_map _ size (YieldsList-from_first (λ call. call) left calls (ap left c.map.ensures.source ∙ c.of.ensures)) c.map.ensures.closure (λ x r q k. search rules))
     (search rules)
 
-pub returns-clause-place : goal.returns-clause-place
-returns-clause-place c =
-    let calls = calls_of c.args.bytes.now in
-    let size = λ (call : ℕ × Action). length (spell call.1) in
-    sum_by_from_yields_List size calls c.map.result _ c.sum.ensures.ran
-    (YieldsList-from_map _ size (YieldsList-from_first (λ call. call) left calls (ap left c.map.ensures.source ∙ c.of.ensures)) c.map.ensures.closure (λ x r q k. search rules))
-
-pub returns-clause-within : goal.returns-clause-within
-returns-clause-within c =
+pub returns : goal.returns
+returns c =
     let calls = calls_of c.args.bytes.now in
     let size = λ (call : ℕ × Action). length (spell call.1) in
     let within : behind calls ≤ length c.args.bytes.now = walk_within (length c.args.bytes.now) 0 c.args.bytes.now in
     let place : c.sum.result ≡ behind calls =
-    sum_by_from_yields_List size calls c.map.result _ c.sum.ensures.ran
+    sum_by_from_yields_List size calls c.map.result c.sum.result c.sum.ensures.ran
     (YieldsList-from_map _ size (YieldsList-from_first (λ call. call) left calls (ap left c.map.ensures.source ∙ c.of.ensures)) c.map.ensures.closure (λ x r q k. search rules))
-    in omega arith
+    in record { place = place; within = omega arith }
