@@ -19,10 +19,9 @@ pub(crate) fn size(tree: &Expr) -> usize
     ensures { result ≡ length (spell (tree_of tree.now)) }
 {
     match tree {
-        Expr::Atom(_, _) => 1,
+        Expr::Atom(..) => 1,
         Expr::Inside(_, inner) => size(inner) + 2,
-        Expr::Tilde(inner) => size(inner) + 1,
-        Expr::Ended(inner, _) => size(inner) + 1,
+        Expr::Tilde(inner) | Expr::Ended(inner, _) => size(inner) + 1,
         Expr::Joined(_, left, right) => size(left) + 1 + size(right),
     }
 }
