@@ -1,5 +1,5 @@
 //! The climb to the least solution of a let rec group.
-ghost use Rattle.std.specs.Prelude.{◌≡◌, map, length};
+ghost use Rattle.std.specs.Prelude.{map};
 ghost use Rattle.term.specs.Statements.{binding_of};
 ghost use Rattle.meaning.specs.Systems.{Least};
 ghost use Rattle.meaning.specs.Solvings.{SolvingBegins, SolvingSteps, SolvingBelow, SolvingSolves, SolvingAlong, SolvingAlike, solving_height};
