@@ -6,8 +6,7 @@ ghost use Rattle.given.specs.Orders.{no_order, Reordered};
 
 use super::bond;
 use relation::{Relation, Value};
-use run::Snapshot;
-use run::event::{BRANCH, FENCE};
+use run::{Kind, Snapshot};
 use term::Given;
 
 /// The predefined sets and relations of a run, and the coherence order under trial.
@@ -37,8 +36,8 @@ impl Base {
             universe: events.gather(|_| true),
             reads: events.gather(|event| event.is_read()),
             writes: events.gather(|event| event.is_write()),
-            fences: events.gather(|event| event.kind == FENCE),
-            branches: events.gather(|event| event.kind == BRANCH),
+            fences: events.gather(|event| event.is(Kind::Fence)),
+            branches: events.gather(|event| event.is(Kind::Branch)),
             memory: events.gather(|event| event.is_memory()),
             initial: events.gather(|event| event.is_initial()),
             settled: events.gather(|event| event.is_write() && event.settled),

@@ -14,12 +14,6 @@ use Rattle.relation.specs.Rows.{TakesEvents, RowsBy}
 use Rattle.relation.specs.Bits.{in_nothing}
 use Rattle.relation.specs.Marked.{marks_as}
 
--- the rows below n show the relation
-pub record Filled (n : ℕ) (rows : List ℕ) (R : Pairs) : Type 0 where
-  pub long : length rows ≡ 32
-  pub fits : (a : ℕ) → get_or rows a 0 < 2 ^ 32
-  pub same : (a : ℕ) → a < n → (b : ℕ) → Member (get_or rows a 0) b ↔ R a b
-
 -- 32 rows of nothing
 abbrev pub blank : List ℕ
 blank = replicate 32 0
@@ -27,33 +21,6 @@ blank = replicate 32 0
 -- every row of nothing is nothing
 pub row_of_nothing : (a : ℕ) → get_or blank a 0 ≡ 0
 row_of_nothing a = ⊎_elim (λ l. get_or-replicate 32 a 0 0 l) (λ l. get_or_past blank a 0 l) (cases_lt a 32)
-
--- with no row made
-pub filled_none : (R : Pairs) → Filled 0 blank R
-filled_none R = record { long = refl; fits = λ a. omega (arith, row_of_nothing a); same = λ a l. absurd (omega arith) }
-
--- after one more row
-pub filled_more : (n : ℕ) (rows : List ℕ) (v : ℕ) (R : Pairs) → n < 32 → Filled n rows R → Marks v (R n) → Filled (n + 1) (set rows n v) R
-filled_more n rows v R l f m =
-    let here : get_or (set rows n v) n 0 ≡ v = get_or-set_same rows n v 0 (omega (arith, f.long)) in
-    record {
-      long = length-set rows n v ∙ f.long;
-      fits = λ a. ⊎_elim (λ e. let at : get_or (set rows n v) a 0 ≡ v = subst⁻¹ (λ k. get_or (set rows n v) k 0 ≡ v) e here in omega (arith, at, m.fits)) (λ ne. omega (arith, get_or-set_other rows n a v 0 ne, f.fits a)) (cases_eq a n);
-      same = λ a below b.
-          ⊎_elim
-          (λ e. subst⁻¹ (λ k. Member (get_or (set rows n v) k 0) b ↔ R k b) e (subst⁻¹ (λ x. Member x b ↔ R n b) here (m.same b)))
-          (λ ne. subst⁻¹ (λ x. Member x b ↔ R a b) (get_or-set_other rows n a v 0 ne) (f.same a (omega arith) b))
-          (cases_eq a n);
-    }
-
--- with every row made
-pub filled_done : (n : ℕ) (rows : List ℕ) (R : Pairs) → 32 ≤ n → ((a b : ℕ) → R a b → a < 32) → Filled n rows R → Shows rows R
-filled_done n rows R l bound f =
-    record {
-      long = f.long;
-      fits = f.fits;
-      same = λ a b. (λ h. (f.same a (omega (arith, h.within)) b).0 h.there, λ r. record { within = bound a b r; there = (f.same a (omega (arith, bound a b r)) b).1 r });
-    }
 
 module _ (xs ys : List ℕ) (a : ℕ) (l : a < 32) {v : ℕ} where
   -- a row of a union
