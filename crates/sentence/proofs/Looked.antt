@@ -29,18 +29,9 @@ pub word_so : (r : Option Role) (w : Word) → role_word r ≡ Some w → r ≡ 
 word_so (Some (speaks (words x))) w e = cc
 word_so r w e = cc
 
-sign_so : (r : Option Role) (b : Bool) (i : Infix) → role_sign r b ≡ Some i → r ≡ Some (goes (joins i))
-sign_so (Some (goes (joins product))) false i e = cc
-sign_so (Some (goes (joins product))) true i e = cc
-sign_so (Some (goes (joins j))) b i e = cc
-sign_so r b i e = cc
-
 post_so : (r : Option Role) (b : Bool) (q : Post) → role_post r b ≡ Some q → (x : Role) × (r ≡ Some x)
 post_so None b q e = let no : ⊥ = cc in absurd no
 post_so (Some x) b q e = (x, refl)
-
-pub sign_here : (ts : List Sort) (at : ℕ) (i : Infix) → sign_at ts at ≡ Some i → at < length ts
-sign_here ts at i e = here ts at (goes (joins i)) (sign_so (first_role (drop at ts)) (begins_atom (drop (at + 1) ts)) i e)
 
 pub post_here : (ts : List Sort) (at : ℕ) (q : Post) → post_at ts at ≡ Some q → at < length ts
 post_here ts at q e = let r = post_so (first_role (drop at ts)) (begins_atom (drop (at + 1) ts)) q e in here ts at r.0 r.1
