@@ -17,7 +17,7 @@ use Rattle.run.specs.Rules.{Keeps}
 use Rattle.run.specs.Runs.{Run, Stands, shown}
 use Rattle.run.specs.Tests.{holds, is_read, is_write, same_place, in_range, broken, rivalled}
 use Rattle.bench.specs.Tests.{clashes, bad_number, agree, refusal, answer}
-use Rattle.run.proofs.Rules.{read_decided, write_decided, place_decided, range_decided, flag_decided, other_decided, rival_decided, only_settled_decided, shown_stands, stands_shown, shown_decided, decided}
+use Rattle.run.proofs.Rules.{read_decided, write_decided, place_decided, range_decided, flag_decided, other_decided, rival_decided, only_settled_decided, stands_shown, shown_decided, decided}
 use Rattle.bench.proofs.Stays.{came, stays_there, one_event, Open}
 
 -- Enter

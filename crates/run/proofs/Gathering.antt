@@ -2,8 +2,9 @@
 use Rattle.std.proofs.Common.{◌≡◌, ℕ, ◌+◌, ◌*◌, ◌%◌, ◌^◌, ◌<◌, ◌≤◌, Bool, true, false, eqb, Some, None, Option, MatchOption, refl, sym, ap, ◌∙◌, subst, ⊎_elim, arith, w32}
 use lib.Bits.{bit_or}
 use Rattle.std.proofs.lemmas.Nat.{or_lt}
-use Rattle.std.proofs.lemmas.Nat.Bits.{bit_at-zero, bit_at_set_same, bit_at_set_other}
-use Rattle.std.proofs.lemmas.Bool.{both_ways, cases_eq, cases_lt, cond_below, cond_above}
+use Rattle.std.proofs.lemmas.Nat.Bits.{bit_at_set_same, bit_at_set_other}
+use Rattle.std.proofs.lemmas.Option.{MatchOption-at_some, MatchOption-at_none}
+use Rattle.std.proofs.lemmas.Bool.{both_ways, cases_eq, cond_below, cond_above}
 use Rattle.run.specs.declared.event.Event.{Event}
 use Rattle.run.specs.Runs.{Run}
 use Rattle.run.specs.Tests.{holds}
@@ -16,68 +17,40 @@ pub record Underway (answers : Event → Bool → Type 0) (run : Run) (n mask : 
   pub clear : (k : ℕ) → k < n → run k ≡ None → has mask k ≡ false
   pub ahead : (k : ℕ) → n ≤ k → has mask k ≡ false
 
--- what holds of an option holds of what it is
-at_some : (A : Type 0) (P : Event → Type 0) (o : Option Event) (f : Event) → MatchOption o A P → o ≡ Some f → P f
-at_some A P (Some e) f h is = let same : e ≡ f = cc is in subst P same h
-at_some A P None f h is = absurd (cc is)
-
-at_none : (A : Type 0) (P : Event → Type 0) (o : Option Event) → MatchOption o A P → o ≡ None → A
-at_none A P (Some e) h is = absurd (cc is)
-at_none A P None h is = h
-
-module _ (answers : Event → Bool → Type 0) (run : Run) where
-  -- none is
-  pub underway_none : Underway answers run 0 0
-  underway_none = record {
-    fits = omega arith;
-    answered = λ k e lt. absurd (omega arith);
-    clear = λ k lt. absurd (omega arith);
-    ahead = λ k le. ap (λ b. eqb b 1) (bit_at-zero k);
-  }
-
-  module _ (n mask next : ℕ) (b : Bool) (met : Event → Type 0) (lt : n < 32) (u : Underway answers run n mask) (asked : MatchOption (run n) (b ≡ false) met) (says : (e : Event) → met e → answers e b) where
-    -- one more, where the test answers true
-    pub underway_found : b ≡ true → next ≡ bit_or mask ((1 * 2 ^ n) % 2 ^ 32) → Underway answers run (n + 1) next
-    underway_found passes is =
-        let set : has next n ≡ true = ap (λ m. has m n) is ∙ ap (λ d. eqb d 1) (bit_at_set_same w32 mask n lt) in
-        let other : (k : ℕ) → (k ≡ n → ⊥) → has next k ≡ has mask k = λ k ne. ap (λ m. has m k) is ∙ ap (λ d. eqb d 1) (bit_at_set_other w32 mask n lt k ne) in
-        record {
-          fits = subst (λ m. m < 2 ^ 32) (sym is) (or_lt 32 mask _ u.fits (omega arith));
-          answered = λ k f below at.
-              ⊎_elim
-              (λ same. subst (answers f) (passes ∙ sym (ap (has next) same ∙ set)) (says f (at_some _ _ (run n) f asked (ap run (sym same) ∙ at))))
-              (λ ne. subst (answers f) (sym (other k ne)) (u.answered k f (omega arith) at))
-              (cases_eq k n);
-          clear = λ k below at.
-              ⊎_elim
-              (λ same. absurd (both_ways b (at_none _ _ (run n) asked (ap run (sym same) ∙ at)) passes))
-              (λ ne. other k ne ∙ u.clear k (omega arith) at)
-              (cases_eq k n);
-          ahead = λ k le. other k (λ same. omega arith) ∙ u.ahead k (omega arith);
-        }
-
-    -- one more, where nothing stands or the test answers false
-    pub underway_passed : b ≡ false → next ≡ mask → Underway answers run (n + 1) next
-    underway_passed fails is =
-        let same_bits : (k : ℕ) → has next k ≡ has mask k = λ k. ap (λ m. has m k) is in
-        record {
-          fits = subst (λ m. m < 2 ^ 32) (sym is) u.fits;
-          answered = λ k f below at.
-              ⊎_elim
-              (λ same. subst (answers f) (fails ∙ sym (same_bits k ∙ u.ahead k (omega arith))) (says f (at_some _ _ (run n) f asked (ap run (sym same) ∙ at))))
-              (λ ne. subst (answers f) (sym (same_bits k)) (u.answered k f (omega arith) at))
-              (cases_eq k n);
-          clear = λ k below at. same_bits k ∙ ⊎_elim (λ same. u.ahead k (omega arith)) (λ ne. u.clear k (omega arith) at) (cases_eq k n);
-          ahead = λ k le. same_bits k ∙ u.ahead k (omega arith);
-        }
-
-  -- all are
-  pub underway_done : (n mask : ℕ) → n ≡ 32 → Underway answers run n mask → Gathered answers run mask
-  underway_done n mask all u =
+module _ (answers : Event → Bool → Type 0) (run : Run) (n mask next : ℕ) (b : Bool) (met : Event → Type 0) (lt : n < 32) (u : Underway answers run n mask) (asked : MatchOption (run n) (b ≡ false) met) (says : (e : Event) → met e → answers e b) where
+  -- one more, where the test answers true
+  pub underway_found : b ≡ true → next ≡ bit_or mask ((1 * 2 ^ n) % 2 ^ 32) → Underway answers run (n + 1) next
+  underway_found passes is =
+      let set : has next n ≡ true = ap (λ m. has m n) is ∙ ap (λ d. eqb d 1) (bit_at_set_same w32 mask n lt) in
+      let other : (k : ℕ) → (k ≡ n → ⊥) → has next k ≡ has mask k = λ k ne. ap (λ m. has m k) is ∙ ap (λ d. eqb d 1) (bit_at_set_other w32 mask n lt k ne) in
       record {
-        fits = u.fits;
-        answered = λ k e at. u.answered k e (omega (arith, at.0)) at.1;
-        clear = λ k none. ⊎_elim (λ lt. u.clear k (omega arith) (cond_below k 32 (run k) None lt ∙ none)) (λ ge. u.ahead k (omega arith)) (cases_lt k 32);
+        fits = subst (λ m. m < 2 ^ 32) (sym is) (or_lt 32 mask _ u.fits (omega arith));
+        answered = λ k f below at.
+            ⊎_elim
+            (λ same. subst (answers f) (passes ∙ sym (ap (has next) same ∙ set)) (says f (MatchOption-at_some _ _ f (ap run (sym same) ∙ at) asked)))
+            (λ ne. subst (answers f) (sym (other k ne)) (u.answered k f (omega arith) at))
+            (cases_eq k n);
+        clear = λ k below at.
+            ⊎_elim
+            (λ same. absurd (both_ways b (MatchOption-at_none _ _ (ap run (sym same) ∙ at) asked) passes))
+            (λ ne. other k ne ∙ u.clear k (omega arith) at)
+            (cases_eq k n);
+        ahead = λ k le. other k (λ same. omega arith) ∙ u.ahead k (omega arith);
+      }
+
+  -- one more, where nothing stands or the test answers false
+  pub underway_passed : b ≡ false → next ≡ mask → Underway answers run (n + 1) next
+  underway_passed fails is =
+      let same_bits : (k : ℕ) → has next k ≡ has mask k = λ k. ap (λ m. has m k) is in
+      record {
+        fits = subst (λ m. m < 2 ^ 32) (sym is) u.fits;
+        answered = λ k f below at.
+            ⊎_elim
+            (λ same. subst (answers f) (fails ∙ sym (same_bits k ∙ u.ahead k (omega arith))) (says f (MatchOption-at_some _ _ f (ap run (sym same) ∙ at) asked)))
+            (λ ne. subst (answers f) (sym (same_bits k)) (u.answered k f (omega arith) at))
+            (cases_eq k n);
+        clear = λ k below at. same_bits k ∙ ⊎_elim (λ same. u.ahead k (omega arith)) (λ ne. u.clear k (omega arith) at) (cases_eq k n);
+        ahead = λ k le. same_bits k ∙ u.ahead k (omega arith);
       }
 
 -- where the test computes, each number has its answer

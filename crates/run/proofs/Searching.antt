@@ -3,6 +3,7 @@ use Rattle.std.proofs.Common.{◌≡◌, ℕ, ◌<◌, ◌≤◌, Bool, true, fa
 use Rattle.std.specs.Bool.{MatchBool}
 use Rattle.std.specs.List.{HoldsAt, AllWithin, range_with_len}
 use Rattle.std.proofs.lemmas.List.FromFn.{length-range_with_len, get_or-range_with_len}
+use Rattle.std.proofs.lemmas.Option.{MatchOption-at_some}
 use Rattle.std.proofs.lemmas.Bool.{both_ways, cases_Bool, cond_below, false≢true}
 use Rattle.run.specs.declared.event.Event.{Event}
 use Rattle.run.specs.Runs.{Run, Stands, shown, without}
@@ -33,10 +34,6 @@ passing : (answers : Event → Bool → Type 0) (o : Option Event) → Passes an
 passing answers None h = absurd h
 passing answers (Some e) h = (e, refl, h)
 
-failing : (answers : Event → Bool → Type 0) (o : Option Event) → Fails answers o → (e : Event) → o ≡ Some e → answers e false
-failing answers None h e is = absurd (cc is)
-failing answers (Some f) h e is = let same : f ≡ e = cc is in subst (λ v. answers v false) same h
-
 -- a search through a table
 pub searched_table : (answers : Event → Bool → Type 0) (events : List (Option Event)) (r : Bool) → length events ≡ 32 → MatchBool r ((k : ℕ) × (k < length events) × HoldsAt (Passes answers) events k) (AllWithin (Fails answers) events 0 (length events)) → Searched answers (table_run events) r
 searched_table answers events true long h =
@@ -45,7 +42,7 @@ searched_table answers events true long h =
 searched_table answers events false long h =
     record {
       some = λ e. absurd (false≢true e);
-      none = λ _ n e stands. failing answers (table_run events n) (h n None (omega arith) (omega (arith, stands.0))) e stands.1;
+      none = λ _ n e stands. MatchOption-at_some _ _ e stands.1 (h n None (omega arith) (omega (arith, stands.0)));
     }
 
 -- a search through the numbers, with one left out
@@ -67,7 +64,7 @@ searched_others answers run n false h =
         let at : get_or (range_with_len 0 32) m 0 ≡ m = omega (arith, get_or-range_with_len 0 32 m 0 s.1.0) in
         ⊎_elim
         (λ same. absurd (s.0 (sym at ∙ same)))
-        (λ f. failing answers (shown run m) (subst (λ k. Fails answers (shown run k)) at f) e (stands_shown run m e s.1))
+        (λ f. MatchOption-at_some _ _ e (stands_shown run m e s.1) (subst (λ k. Fails answers (shown run k)) at f))
         (h m 0 (omega arith) (omega (arith, s.1.0, length-range_with_len 0 32)))
 
 -- the lowest number found is that of the event at fault
