@@ -23,6 +23,7 @@ pub(crate) fn bind_group(
     requires { at + length (spell_binding (tree_of first.now)) + length (spell_more (trees_of more.now)) < 2 ^ 64 }
     ensures { OnOk result (bound.new.items ≡ bound.old.items ++ group_tokens at (tree_of first.now ∷ trees_of more.now)) }
 {
+    // A loop and no chain: where the next name stands comes from the size of the binding before it.
     bound.push(at)?;
     let mut next = at + 2 + size(first);
     for said in more {
@@ -66,6 +67,7 @@ impl<'a> Scope<'a> {
         requires { at + length (spell_binding (tree_of first.now)) + length (spell_more (trees_of more.now)) < 2 ^ 64 }
         ensures { IfOk result (λ p. GroupPlaced (tokens_of self.now) (bound_of self.now) at (tree_of first.now) (trees_of more.now) p) }
     {
+        // A loop and no chain: where the next name stands, and the names before it, come from the binding before it.
         let mut before: Vec<usize> = Vec::new(self.heap);
         let mut found: Vec<Binding> = Vec::new(self.heap);
         let head = self.binding(before.as_slice(), at, first)?;
