@@ -16,6 +16,7 @@ use term::statement::Binding;
 #[derive(Clone, Copy)]
 pub struct Solving<E> {
     pub equations: E,
+    // An array: nothing here has heap memory.
     pub found: [Relation; ROOM],
 }
 
