@@ -108,6 +108,7 @@ fn settling(number: u8, event: Event) -> Option<Action>
 }
 
 /// The calls of a stage: what is made of each event, by number.
+// A loop over the numbers: with std::array::from_fn it stays open what `call_of` needs and what it gave at a number.
 fn stage<F: Fn(u8, Event) -> Option<Action>>(table: &Snapshot, call_of: F) -> [Option<Action>; 32]
     requires { F.IsAlwaysCallable call_of }
     ensures { MadeOf (F.post call_of) (table_run table.now.events) result }
