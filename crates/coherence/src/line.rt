@@ -18,6 +18,7 @@ fn lay(order: &mut Relation, mut rest: u32, mut group: u32, mut digit: u32) -> u
     ensures rows { order.new.rows ≡ laid order.old.rows rest (mask_row group digit) }
     ensures rest { result ≡ left_of rest (mask_row group digit) }
 {
+    // A loop and no fold: four values change, one of them in the caller's place.
     for others in (0..group.count_ones()).rev() {
         let radix = factorials::factorial(others);
         let event = mask::select(group, digit / radix);
@@ -50,6 +51,7 @@ pub(crate) fn lay_lines(events: &Snapshot, digits: &[u32; 16], order: &mut Relat
     ensures { order.new.rows ≡ rows_at (table_run events.now.events) digits.now 16 }
 {
     *order = Relation { rows: [0; 32] };
+    // By location: it names the line as well as the place of its digit.
     for location in 0..16u8 {
         lay_line(events, location, digits[location as usize], order);
     }

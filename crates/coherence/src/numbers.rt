@@ -38,6 +38,7 @@ fn split(events: &Snapshot, number: u16, digits: &mut [u32; 16]) -> u32
     ensures rest { result ≡ excess (ways (table_run events.now.events)) number 16 }
 {
     let mut rest = u32::from(number);
+    // By location: it names the radix as well as the place of its digit.
     for location in (0..16u8).rev() {
         let radix = ways(events, location);
         digits[location as usize] = rest % radix;

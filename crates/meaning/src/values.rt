@@ -7,6 +7,7 @@ use std::marker::Model;
 /// How many values there is room for.
 pub const ROOM: usize = 64;
 
+// A table and how much of it is filled: nothing here has heap memory, and the kit's vector without heap wants a blank value.
 /// So many values, at most 64.
 #[derive(Drop)]
 pub struct Values {

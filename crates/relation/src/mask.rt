@@ -45,6 +45,7 @@ pub fn is_empty(a: u32) -> bool
     a == 0
 }
 
+// An event's number is no type of its own: they come from 0..32 here, where the bound is known, and from fields of any byte.
 /// The set of one event.
 pub(crate) fn single(event: usize) -> u32
     requires { event < 32 }

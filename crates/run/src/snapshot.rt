@@ -77,6 +77,7 @@ impl Snapshot {
         })
     }
 
+    // The rule is an enum and no closure: a breach tells which one it was.
     /// Whether the event at `n` breaks a rule.
     pub fn broken(&self, rule: Rule, n: u8, event: &Event) -> bool
         ensures { result ≡ broken rule (table_run self.now.events) n event.now }

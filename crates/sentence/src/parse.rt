@@ -20,6 +20,7 @@ impl<'a> Parser<'a> {
         let first = self.prefixed(at)?;
         let mut tree = first.item;
         let mut next = first.next;
+        // Each operand says where the next sign stands, and may refuse.
         while let Some(sign) = self.infix_from(next, rung) {
             let right = self.ladder(next + 1, sign.bound())?;
             tree = joined(self.heap, sign, tree, right.item)?;
@@ -58,6 +59,7 @@ impl<'a> Parser<'a> {
         let first = self.atom(at)?;
         let mut tree = first.item;
         let mut next = first.next;
+        // Each sign may want for memory, so no chain goes over them.
         while let Some(sign) = self.post_at(next) {
             tree = ended(self.heap, tree, sign)?;
             next += 1;

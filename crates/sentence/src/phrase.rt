@@ -60,6 +60,7 @@ impl<'a> Parser<'a> {
         let head = self.binding(at)?;
         let mut more: Vec<Binding> = Vec::new(self.heap);
         let mut next = head.next;
+        // Each binding says where the next one begins, and may refuse.
         while self.stands(next, Role::Speaks(Speech::Ands)) {
             let bound = self.binding(next + 1)?;
             more.push(bound.item)?;

@@ -17,6 +17,7 @@ pub fn read(heap: Global, sorts: &[Sort]) -> Result<Sentence, SentenceFault>
     let titled = parser.stands(0, Role::Speaks(Speech::Titles));
     let mut at = usize::from(titled);
     let mut statements: Vec<Statement> = Vec::new(heap);
+    // Each statement says where the next one begins, and may refuse.
     while at < sorts.len() {
         let said = parser.statement(at)?;
         statements.push(said.item)?;

@@ -165,6 +165,7 @@ pub fn kind_fault(heap: Global, statements: &[Statement]) -> Result<Option<usize
 {
     let mut known = Vec::new(heap);
     let mut fault = None;
+    // A loop and no chain: the known kinds go from statement to statement, and want of memory ends it.
     for statement in statements {
         let here = statement_kind(&mut known, statement)?;
         fault = lower(fault, here);

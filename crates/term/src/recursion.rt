@@ -93,6 +93,7 @@ pub fn recursion_fault(statements: &[Statement]) -> Option<usize>
 {
     let mut fault = None;
     let mut before: u128 = 0;
+    // A loop and no chain: the number of bindings before goes from statement to statement.
     for statement in statements {
         fault = lower(fault, statement_denied(before, statement));
         before += binds(statement) as u128;
