@@ -1,12 +1,11 @@
 -- Masks: their bits, and rows with lines laid into them. Assumes nothing.
-use Rattle.std.proofs.Common.{◌≡◌, ℕ, zero, suc, ◌+◌, ◌-◌, ◌*◌, ◌/◌, ◌%◌, ◌^◌, ◌<◌, ◌≤◌, Bool, true, false, cond, not, ◌||◌, eqb, ltb, List, [], ◌∷◌, ◌++◌, length, get_or, set, Decides, sym, refl, ap, ◌∙◌, subst, inl, inr, ⊎_elim, not-suc-le-zero, one-mul, add-one, arith, length-set, get_or-set_other, get_or-set_same, mod-lt, mod-eq_of_lt, length-append}
+use Rattle.std.proofs.Common.{◌≡◌, ℕ, zero, suc, ◌+◌, ◌*◌, ◌/◌, ◌%◌, ◌^◌, ◌<◌, ◌≤◌, Bool, true, false, cond, not, ◌||◌, eqb, ltb, List, [], ◌∷◌, ◌++◌, length, get_or, set, Decides, sym, refl, ap, ◌∙◌, subst, inl, inr, ⊎_elim, not-suc-le-zero, arith, length-set, get_or-set_other, get_or-set_same, mod-lt, mod-eq_of_lt, length-append}
 use mathlib.Core.Path.{fun_ext}
-use native.Mathlib.Nat.{div-eq_of_lt, zero-div}
 use lib.Bits.{bit_or, bit_xor}
 use Rattle.std.proofs.lemmas.Bool.{both_ways, cases_Bool, cases_eq, cases_lt, eq-eqb, ne_eqb, or_left}
 use Rattle.std.proofs.lemmas.Bool.Decides.{nat_tests}
-use Rattle.std.proofs.lemmas.Nat.Bits.{same_from_bits_below}
-use Rattle.std.proofs.lemmas.Nat.{or_lt, pow-add, pow_below, shl-shr, or_shr, or_mod, xor_shr, xor_mod}
+use Rattle.std.proofs.lemmas.Nat.Bits.{bit_at-zero, bit_at-pow_same, bit_at-pow_other, same_from_bits_below}
+use Rattle.std.proofs.lemmas.Nat.{or_lt, pow_below, or_shr, or_mod, xor_shr, xor_mod}
 use Rattle.std.specs.Int.Count.{ones, ones_in}
 use Rattle.std.specs.Int.RustNames.{count_ones}
 use Rattle.std.proofs.lemmas.Nat.{mod-pow-add, ones_cat, pow_pos}
@@ -46,7 +45,7 @@ xor_on (suc (suc u)) p = absurd (omega arith)
 -- nothing is in the empty set
 pub has_none : (k : ℕ) → has 0 k ≡ false
 unfolding has
-has_none k = ap (λ n. eqb (n % 2) 1) (zero-div (2 ^ k))
+has_none k = ap (λ n. eqb n 1) (bit_at-zero k)
 
 -- what is in a set of either
 pub has_or : (a b k : ℕ) → has (bit_or a b) k ≡ (has a k || has b k)
@@ -55,23 +54,6 @@ has_or a b k =
     let bit : bit_or a b / 2 ^ k % 2 ≡ bit_or (a / 2 ^ k % 2) (b / 2 ^ k % 2) = ap (λ n. n % 2) (or_shr a b k) ∙ or_mod (a / 2 ^ k) (b / 2 ^ k) 1 in
     ap (λ n. eqb n 1) bit ∙ or_bits (a / 2 ^ k % 2) (b / 2 ^ k % 2) (omega arith) (omega arith)
 
--- the bit of a power of two
-bit_below : (d : ℕ) → 2 ^ (suc d) % 2 ≡ 0
-bit_below d = let two : 2 ^ (suc d) ≡ 2 ^ d * 2 = ap (λ n. 2 ^ n) (sym (add-one d)) ∙ pow-add 2 d 1 in omega (arith, two)
-
-pub power_bit : (x : ℕ) → 2 ^ x / 2 ^ x % 2 ≡ 1
-power_bit x = let whole = ap (λ n. n / 2 ^ x) (sym (one-mul (2 ^ x))) ∙ shl-shr 1 x in omega (arith, whole)
-
-pub power_other : (x k : ℕ) → (k ≡ x → ⊥) → 2 ^ x / 2 ^ k % 2 ≡ 0
-power_other x k ne =
-    ⊎_elim
-    (λ lt. let d : ℕ = x - k - 1 in
-    let split : x ≡ suc d + k = omega arith in
-    let whole : 2 ^ x / 2 ^ k ≡ 2 ^ (suc d) = ap (λ n. 2 ^ n / 2 ^ k) split ∙ ap (λ n. n / 2 ^ k) (pow-add 2 (suc d) k) ∙ shl-shr (2 ^ (suc d)) k in
-    ap (λ n. n % 2) whole ∙ bit_below d)
-    (λ ge. let lt : x < k = omega arith in ap (λ n. n % 2) (div-eq_of_lt (pow_below x k lt)))
-    (cases_lt k x)
-
 -- a number more in the set
 pub has_more : (mask x : ℕ) → has (more mask x) x ≡ true
 unfolding has
@@ -79,7 +61,7 @@ has_more mask x = has_or mask (2 ^ x) x ∙ at (has mask x)
   where
     at : (b : Bool) → (b || has (2 ^ x) x) ≡ true
     at true = refl
-    at false = ap (λ n. eqb n 1) (power_bit x)
+    at false = ap (λ n. eqb n 1) (bit_at-pow_same x)
 
 pub has_more_other : (mask x k : ℕ) → (k ≡ x → ⊥) → has (more mask x) k ≡ has mask k
 unfolding has
@@ -87,20 +69,20 @@ has_more_other mask x k ne = has_or mask (2 ^ x) k ∙ at (has mask k)
   where
     at : (b : Bool) → (b || has (2 ^ x) k) ≡ b
     at true = refl
-    at false = ap (λ n. eqb n 1) (power_other x k ne)
+    at false = ap (λ n. eqb n 1) (bit_at-pow_other x k ne)
 
 -- a number less
 pub has_less : (mask x : ℕ) → has (less mask x) x ≡ not (has mask x)
 unfolding has
 has_less mask x =
     let bit : bit_xor mask (2 ^ x) / 2 ^ x % 2 ≡ bit_xor (mask / 2 ^ x % 2) (2 ^ x / 2 ^ x % 2) = ap (λ n. n % 2) (xor_shr mask (2 ^ x) x) ∙ xor_mod (mask / 2 ^ x) (2 ^ x / 2 ^ x) 1 in
-    ap (λ n. eqb n 1) (bit ∙ ap (λ n. bit_xor (mask / 2 ^ x % 2) n) (power_bit x)) ∙ xor_on (mask / 2 ^ x % 2) (omega arith)
+    ap (λ n. eqb n 1) (bit ∙ ap (λ n. bit_xor (mask / 2 ^ x % 2) n) (bit_at-pow_same x)) ∙ xor_on (mask / 2 ^ x % 2) (omega arith)
 
 pub has_less_other : (mask x k : ℕ) → (k ≡ x → ⊥) → has (less mask x) k ≡ has mask k
 unfolding has
 has_less_other mask x k ne =
     let bit : bit_xor mask (2 ^ x) / 2 ^ k % 2 ≡ bit_xor (mask / 2 ^ k % 2) (2 ^ x / 2 ^ k % 2) = ap (λ n. n % 2) (xor_shr mask (2 ^ x) k) ∙ xor_mod (mask / 2 ^ k) (2 ^ x / 2 ^ k) 1 in
-    ap (λ n. eqb n 1) (bit ∙ ap (λ n. bit_xor (mask / 2 ^ k % 2) n) (power_other x k ne)) ∙ xor_off (mask / 2 ^ k % 2) (omega arith)
+    ap (λ n. eqb n 1) (bit ∙ ap (λ n. bit_xor (mask / 2 ^ k % 2) n) (bit_at-pow_other x k ne)) ∙ xor_off (mask / 2 ^ k % 2) (omega arith)
 
 -- it has as many numbers as bits
 bit_size : (u : ℕ) (x : ℕ) → u < 2 → length (cond (eqb u 1) (x ∷ []) []) ≡ count_ones u

@@ -1,8 +1,7 @@
 -- The order that rows show, as pairs. Assumes nothing.
-use Rattle.std.proofs.Common.{◌≡◌, ℕ, ◌/◌, ◌%◌, ◌^◌, ◌<◌, true, List, get_or, subst, ⊎_elim, arith}
+use Rattle.std.proofs.Common.{◌≡◌, ℕ, ◌/◌, ◌%◌, ◌^◌, ◌<◌, true, List, get_or, ⊎_elim, arith}
 use mathlib.Core.Path.{subst⁻¹}
-use native.Mathlib.Nat.{div-eq_of_lt}
-use Rattle.std.proofs.lemmas.Nat.{pow_below}
+use Rattle.std.proofs.lemmas.Nat.Bits.{bit_at_above}
 use Rattle.std.proofs.lemmas.Bool.{cases_lt, false≢true}
 use Rattle.std.proofs.lemmas.Bool.Decides.{Decides-eqb}
 use Rattle.run.specs.Events.{Read, Write, Memory, Initial}
@@ -21,9 +20,7 @@ use Rattle.given.specs.Orders.{no_order, Reordered}
 -- a row of 32 bits has no bit from 32 on
 pub bit_low : (x n : ℕ) → x < 2 ^ 32 → bit x n ≡ 1 → n < 32
 bit_low x n fits up =
-    ⊎_elim (λ l. l)
-    (λ ge. let wide : x < 2 ^ n = ⊎_elim (λ l. omega (arith, pow_below 32 n l)) (λ l. let e : 32 ≡ n = omega arith in subst (λ k. x < 2 ^ k) e fits) (cases_lt 32 n) in absurd (omega (arith, div-eq_of_lt wide, up)))
-    (cases_lt n 32)
+    ⊎_elim (λ l. l) (λ ge. let none = bit_at_above x 32 n fits ge in absurd (omega (arith, none, up))) (cases_lt n 32)
 
 -- where the test of a bit comes out true, the bit is up
 pub has_up : (x n : ℕ) → has x n ≡ true → bit x n ≡ 1

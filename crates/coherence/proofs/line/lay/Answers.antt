@@ -3,12 +3,6 @@ use Rattle.coherence.proofs.Masks.{mask_size}
 use Rattle.coherence.proofs.Laying.{Underway, underway_start, underway_more, underway_done}
 use Rattle.coherence.proofs.line.lay.Goals as goal
 
-pub nonzero_div-digit : goal.nonzero_div-digit
-nonzero_div-digit c = c.factorial-radix.ensures.positive
-
-pub nonzero_rem-digit : goal.nonzero_rem-digit
-nonzero_rem-digit c = c.factorial-radix.ensures.positive
-
 pub loop-others-init : goal.loop-others-init
 loop-others-init c =
     let long : length c.args.order.now.rows ≡ 32 = search rules in

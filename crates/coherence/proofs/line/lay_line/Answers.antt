@@ -1,18 +1,18 @@
-use Rattle.std.proofs.Common.{◌<◌, length, sym, ap, subst, arith}
+use Rattle.std.proofs.Common.{◌<◌, length, sym, ap, subst}
 use Rattle.run.specs.Tests.{table_run}
 use Rattle.coherence.specs.Perms.{factorial}
 use Rattle.coherence.proofs.Perms.{factorial_pos}
 use Rattle.coherence.proofs.Laying.{gathered, line_laid}
 use Rattle.coherence.proofs.line.lay_line.Goals as goal
 
-pub lay-after_first-requires : goal.lay-after_first-requires
-lay-after_first-requires c = record { below = factorial_pos _; small = omega arith }
+pub lay-after_first-requires-clause-below : goal.lay-after_first-requires-clause-below
+lay-after_first-requires-clause-below c = factorial_pos _
 
-pub lay-after_free-requires : goal.lay-after_free-requires
-lay-after_free-requires c = record { below = subst (λ n. c.args.digit < factorial n) (ap length (sym (gathered c.free-free.result _ c.free-free.ensures))) c.requires.below; small = c.requires.small }
+pub lay-after_free-requires-clause-below : goal.lay-after_free-requires-clause-below
+lay-after_free-requires-clause-below c = subst (λ n. c.args.digit < factorial n) (ap length (sym (gathered c.free-free.result _ c.free-free.ensures))) c.requires.below
 
-pub lay-requires : goal.lay-requires
-lay-requires c = record { below = factorial_pos _; small = omega arith }
+pub lay-requires-clause-below : goal.lay-requires-clause-below
+lay-requires-clause-below c = factorial_pos _
 
 pub returns : goal.returns
 returns c =

@@ -1,6 +1,4 @@
-use Rattle.std.proofs.Common.{ap, ◌∙◌, arith}
 use Rattle.run.specs.Tests.{table_run}
-use Rattle.coherence.specs.Laying.{rows_at}
 use Rattle.coherence.proofs.Laying.{rows_none, rows_more}
 use Rattle.coherence.proofs.line.lay_lines.Goals as goal
 
@@ -10,6 +8,3 @@ loop-location-init c = rows_none (table_run c.args.events.now.events) c.args.dig
 pub loop-location-preserved : goal.loop-location-preserved
 loop-location-preserved c =
     rows_more (table_run c.args.events.now.events) c.args.digits.now c.loop-location.order.rows c.lay_line.new.order.rows c.loop-location.location c.loop-location.invariant c.lay_line.ensures
-
-pub returns : goal.returns
-returns c = c.loop-location.invariant ∙ ap (rows_at (table_run c.args.events.now.events) c.args.digits.now) (omega arith)

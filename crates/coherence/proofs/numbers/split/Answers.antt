@@ -1,14 +1,8 @@
-use Rattle.std.proofs.Common.{◌-◌, ◌<◌, sym, subst, arith, rules}
+use Rattle.std.proofs.Common.{◌-◌, arith}
 use Rattle.run.specs.Tests.{table_run}
 use Rattle.coherence.specs.Digits.{ways}
-use Rattle.coherence.proofs.Told.{Splitting, splitting_start, splitting_more, splitting_done}
+use Rattle.coherence.proofs.Told.{splitting_more, splitting_done}
 use Rattle.coherence.proofs.numbers.split.Goals as goal
-
-pub loop-location-init : goal.loop-location-init
-loop-location-init c =
-    let small : c.args.number < 65536 = search rules in
-    subst (λ n. Splitting (ways (table_run c.args.events.now.events)) c.args.number c.args.digits.now n 16) (sym c.from-rest.ensures)
-    (splitting_start (ways (table_run c.args.events.now.events)) c.args.number c.args.digits.now c.told-digits small)
 
 pub loop-location-preserved : goal.loop-location-preserved
 loop-location-preserved c =
