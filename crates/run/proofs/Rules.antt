@@ -8,7 +8,7 @@ use Rattle.run.specs.declared.rule.Rule.TheVariants.{Ranges, Steps, Initials, So
 use Rattle.run.specs.Events.{Read, Initial, Write, Memory, Placeless, Threaded, SamePlace, InRange}
 use Rattle.run.specs.Runs.{Run, Stands, shown, without}
 use Rattle.run.specs.Rules.{Supplies, OnlySettled, OnlyWrite, Keeps}
-use Rattle.run.specs.Tests.{any_below, holds, is_read, is_initial, is_write, is_memory, is_threaded, same_place, well_threaded, well_placed, in_range, same_step, sourced_at, supplies, some, some_other, rivalled, ill_sourced, misplaced, broken}
+use Rattle.run.specs.Tests.{any_below, holds, is_read, is_initial, is_write, is_memory, is_threaded, same_place, well_threaded, well_placed, in_range, same_step, supplies, some, some_other, rivalled, ill_sourced, misplaced, broken}
 
 -- a flag decides that it is up
 pub flag_decided : (b : Bool) → Decides b (b ≡ true)
@@ -164,11 +164,6 @@ only_write_decided run n e =
     (λ only m f stands write place. only m f stands (write, place))
     (λ only m f stands h. only m f stands h.0 h.1)
     (only_decided run n _ (λ f. Write f × SamePlace f e) (λ f. Decides-and _ _ (write_decided f) (place_decided f e)))
-
--- the test of a source decides where it is
-pub sourced_decided : (o : Option ℕ) (m : ℕ) → Decides (sourced_at o m) (o ≡ Some m)
-sourced_decided None m = (λ e. absurd (false≢true e), λ e. cc e)
-sourced_decided (Some w) m = Decides-like (eqb m w) (λ e. cc e) (λ e. cc e) (Decides-eqb m w)
 
 -- the test that there is a source decides it
 pub tied_decided : (o : Option ℕ) → Decides (is_some o) ((w : ℕ) × (o ≡ Some w))

@@ -49,11 +49,6 @@ well_placed e = (is_memory e && nat_le e.location 15) || (not (is_memory e) && (
 abbrev pub in_range : Event → Bool
 in_range e = nat_le e.kind 4 && (well_threaded e && well_placed e)
 
--- the event's source is at this number
-abbrev pub sourced_at : Option ℕ → ℕ → Bool
-sourced_at None m = false
-sourced_at (Some w) m = m == w
-
 -- both of one thread and step
 abbrev pub same_step : Event → Event → Bool
 same_step e f = e.thread == f.thread && e.step == f.step
