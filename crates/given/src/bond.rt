@@ -1,5 +1,5 @@
 //! Bonds between two events, and the pairs of events of a run that have one.
-ghost use Rattle.std.specs.Prelude.{◌≡◌, ◌<◌};
+ghost use Rattle.std.specs.Prelude.{◌<◌};
 ghost use Rattle.run.specs.Tests.{table_run};
 ghost use Rattle.relation.specs.Masks.{Shows};
 ghost use Rattle.given.specs.Givens.{program_order, reads_from, same_location, other_thread};
