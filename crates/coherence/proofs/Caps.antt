@@ -43,20 +43,11 @@ table_right n k e =
 -- division by a factorial is division by what the code has, below the cap
 pub capped_div : (k f : ℕ) → k < 362880 → k / capped f ≡ k / f
 capped_div k f lt =
-    ⊎_elim
-    (λ over. ap (λ d. k / d) (min-eq_right {n = 362880} {m = f} (omega arith)) ∙ div-eq_of_lt {n = k} {m = 362880} lt ∙ sym (div-eq_of_lt {n = k} {m = f} (omega arith)))
-    (λ within. ap (λ d. k / d) (min-eq_left {n = f} {m = 362880} within))
-    (cases_lt 362880 f)
+    ⊎_elim (λ over. div-eq_of_lt {n = k} {m = capped f} (omega arith) ∙ sym (div-eq_of_lt {n = k} {m = f} (omega arith))) (λ within. ap (λ d. k / d) (omega arith)) (cases_lt 362880 f)
 
 pub capped_mod : (k f : ℕ) → k < 362880 → k % capped f ≡ k % f
 capped_mod k f lt =
-    ⊎_elim
-    (λ over. ap (λ d. k % d) (min-eq_right {n = 362880} {m = f} (omega arith)) ∙ mod-eq_of_lt {n = k} {m = 362880} lt ∙ sym (mod-eq_of_lt {n = k} {m = f} (omega arith)))
-    (λ within. ap (λ d. k % d) (min-eq_left {n = f} {m = 362880} within))
-    (cases_lt 362880 f)
-
-pub capped_pos : (f : ℕ) → 0 < f → 0 < capped f
-capped_pos f lt = omega arith
+    ⊎_elim (λ over. mod-eq_of_lt {n = k} {m = capped f} (omega arith) ∙ sym (mod-eq_of_lt {n = k} {m = f} (omega arith))) (λ within. ap (λ d. k % d) (omega arith)) (cases_lt 362880 f)
 
 -- a product that is not followed above its cap
 pub capped_product : (t w : ℕ) → 0 < t → 0 < w → min (min t 5041 * capped w) 5041 ≡ min (t * w) 5041

@@ -40,14 +40,11 @@ Plays First l e = Initial e × (e.location ≡ l)
 Plays Free l e = (e.kind ≡ 1) × ((e.settled ≡ false) × (e.location ≡ l))
 Plays Last l e = (e.kind ≡ 1) × ((e.settled ≡ true) × (e.location ≡ l))
 
-unsettled_decided : (b : Bool) → Decides (not b) (b ≡ false)
-unsettled_decided b = (not-true b, not_from_false b)
-
 pub role_decided : (role : Role) (l : ℕ) (e : Event) → Decides (role_test role l e) (Plays role l e)
 role_decided First l e = Decides-and (is_initial e) (eqb e.location l) (initial_decided e) (Decides-eqb e.location l)
 role_decided Free l e =
     Decides-and (eqb e.kind 1) (not e.settled && eqb e.location l) (Decides-eqb e.kind 1)
-    (Decides-and (not e.settled) (eqb e.location l) (unsettled_decided e.settled) (Decides-eqb e.location l))
+    (Decides-and (not e.settled) (eqb e.location l) (not-true e.settled, not_from_false e.settled) (Decides-eqb e.location l))
 role_decided Last l e =
     Decides-and (eqb e.kind 1) (e.settled && eqb e.location l) (Decides-eqb e.kind 1)
     (Decides-and e.settled (eqb e.location l) (λ h. h, λ h. h) (Decides-eqb e.location l))

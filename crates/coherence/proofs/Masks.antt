@@ -2,9 +2,10 @@
 use Rattle.std.proofs.Common.{◌≡◌, ℕ, zero, suc, ◌+◌, ◌*◌, ◌/◌, ◌%◌, ◌^◌, ◌<◌, ◌≤◌, Bool, true, false, cond, not, ◌||◌, eqb, ltb, List, [], ◌∷◌, ◌++◌, length, get_or, set, Decides, sym, refl, ap, ◌∙◌, subst, inl, inr, ⊎_elim, not-suc-le-zero, arith, length-set, get_or-set_other, get_or-set_same, mod-lt, mod-eq_of_lt, length-append}
 use mathlib.Core.Path.{fun_ext}
 use lib.Bits.{bit_or, bit_xor}
-use Rattle.std.proofs.lemmas.Bool.{both_ways, cases_Bool, cases_eq, cases_lt, eq-eqb, ne_eqb, or_left}
+use Rattle.std.proofs.Math.Bool.{or-false}
+use Rattle.std.proofs.lemmas.Bool.{both_ways, false_from_ne_true, cases_eq, cases_lt, eq-eqb, ne_eqb, or_left}
 use Rattle.std.proofs.lemmas.Bool.Decides.{nat_tests}
-use Rattle.std.proofs.lemmas.Nat.Bits.{bit_at-zero, bit_at-pow_same, bit_at-pow_other, same_from_bits_below}
+use Rattle.std.proofs.lemmas.Nat.Bits.{bit_at-zero, bit_at_or, bit_at_xor, bit_at-pow_same, bit_at-pow_other, same_from_bits_below}
 use Rattle.std.proofs.lemmas.Nat.{or_lt, pow_below, or_shr, or_mod, xor_shr, xor_mod}
 use Rattle.std.specs.Int.Count.{ones, ones_in}
 use Rattle.std.specs.Int.RustNames.{count_ones}
@@ -22,26 +23,6 @@ use Rattle.coherence.specs.Masks.{has, more, less, mask_of, left_of, laid, Shown
 use Rattle.coherence.proofs.Perms.{in_getD, removed_only, removed_all, removed_gone, removed_sorted, rising_apart}
 use Rattle.coherence.proofs.Rows.{member_decided, precedes_decided, precedes_left, sorted_one, those_in, those_has, those_rising, those_same}
 
--- single bits
-or_bits : (u v : ℕ) → u < 2 → v < 2 → eqb (bit_or u v) 1 ≡ (eqb u 1 || eqb v 1)
-or_bits zero zero p q = refl
-or_bits zero (suc zero) p q = refl
-or_bits zero (suc (suc v)) p q = absurd (omega arith)
-or_bits (suc zero) zero p q = refl
-or_bits (suc zero) (suc zero) p q = refl
-or_bits (suc zero) (suc (suc v)) p q = absurd (omega arith)
-or_bits (suc (suc u)) v p q = absurd (omega arith)
-
-xor_off : (u : ℕ) → u < 2 → eqb (bit_xor u 0) 1 ≡ eqb u 1
-xor_off zero p = refl
-xor_off (suc zero) p = refl
-xor_off (suc (suc u)) p = absurd (omega arith)
-
-xor_on : (u : ℕ) → u < 2 → eqb (bit_xor u 1) 1 ≡ not (eqb u 1)
-xor_on zero p = refl
-xor_on (suc zero) p = refl
-xor_on (suc (suc u)) p = absurd (omega arith)
-
 -- nothing is in the empty set
 pub has_none : (k : ℕ) → has 0 k ≡ false
 unfolding has
@@ -50,39 +31,25 @@ has_none k = ap (λ n. eqb n 1) (bit_at-zero k)
 -- what is in a set of either
 pub has_or : (a b k : ℕ) → has (bit_or a b) k ≡ (has a k || has b k)
 unfolding has
-has_or a b k =
-    let bit : bit_or a b / 2 ^ k % 2 ≡ bit_or (a / 2 ^ k % 2) (b / 2 ^ k % 2) = ap (λ n. n % 2) (or_shr a b k) ∙ or_mod (a / 2 ^ k) (b / 2 ^ k) 1 in
-    ap (λ n. eqb n 1) bit ∙ or_bits (a / 2 ^ k % 2) (b / 2 ^ k % 2) (omega arith) (omega arith)
+has_or a b k = let bit = bit_at_or a b k in grind (arith, nat_tests)
 
 -- a number more in the set
 pub has_more : (mask x : ℕ) → has (more mask x) x ≡ true
 unfolding has
-has_more mask x = has_or mask (2 ^ x) x ∙ at (has mask x)
-  where
-    at : (b : Bool) → (b || has (2 ^ x) x) ≡ true
-    at true = refl
-    at false = ap (λ n. eqb n 1) (bit_at-pow_same x)
+has_more mask x = let bit = bit_at_or mask (2 ^ x) x in let one = bit_at-pow_same x in grind (arith, nat_tests)
 
 pub has_more_other : (mask x k : ℕ) → (k ≡ x → ⊥) → has (more mask x) k ≡ has mask k
 unfolding has
-has_more_other mask x k ne = has_or mask (2 ^ x) k ∙ at (has mask k)
-  where
-    at : (b : Bool) → (b || has (2 ^ x) k) ≡ b
-    at true = refl
-    at false = ap (λ n. eqb n 1) (bit_at-pow_other x k ne)
+has_more_other mask x k ne = ap (λ n. eqb n 1) (omega (arith, bit_at_or mask (2 ^ x) k, bit_at-pow_other x k ne))
 
 -- a number less
 pub has_less : (mask x : ℕ) → has (less mask x) x ≡ not (has mask x)
 unfolding has
-has_less mask x =
-    let bit : bit_xor mask (2 ^ x) / 2 ^ x % 2 ≡ bit_xor (mask / 2 ^ x % 2) (2 ^ x / 2 ^ x % 2) = ap (λ n. n % 2) (xor_shr mask (2 ^ x) x) ∙ xor_mod (mask / 2 ^ x) (2 ^ x / 2 ^ x) 1 in
-    ap (λ n. eqb n 1) (bit ∙ ap (λ n. bit_xor (mask / 2 ^ x % 2) n) (bit_at-pow_same x)) ∙ xor_on (mask / 2 ^ x % 2) (omega arith)
+has_less mask x = let bit = bit_at_xor mask (2 ^ x) x in let one = bit_at-pow_same x in grind (arith, nat_tests)
 
 pub has_less_other : (mask x k : ℕ) → (k ≡ x → ⊥) → has (less mask x) k ≡ has mask k
 unfolding has
-has_less_other mask x k ne =
-    let bit : bit_xor mask (2 ^ x) / 2 ^ k % 2 ≡ bit_xor (mask / 2 ^ k % 2) (2 ^ x / 2 ^ k % 2) = ap (λ n. n % 2) (xor_shr mask (2 ^ x) k) ∙ xor_mod (mask / 2 ^ k) (2 ^ x / 2 ^ k) 1 in
-    ap (λ n. eqb n 1) (bit ∙ ap (λ n. bit_xor (mask / 2 ^ k % 2) n) (bit_at-pow_other x k ne)) ∙ xor_off (mask / 2 ^ k % 2) (omega arith)
+has_less_other mask x k ne = ap (λ n. eqb n 1) (omega (arith, bit_at_xor mask (2 ^ x) k, bit_at-pow_other x k ne))
 
 -- it has as many numbers as bits
 bit_size : (u : ℕ) (x : ℕ) → u < 2 → length (cond (eqb u 1) (x ∷ []) []) ≡ count_ones u
@@ -190,7 +157,7 @@ laid_length rows rest (x ∷ xs) = laid_length (set rows x (less rest x)) (less 
 -- what is not in a list precedes nothing in it
 pub precedes_not : (xs : List ℕ) (a b : ℕ) → member a xs ≡ false → precedes xs a b ≡ false
 precedes_not xs a b none =
-    ⊎_elim (λ h. absurd (both_ways (member a xs) none ((member_decided a xs).1 (precedes_left xs a b ((precedes_decided xs a b).0 h))))) (λ h. h) (cases_Bool (precedes xs a b))
+    false_from_ne_true _ (λ h. both_ways (member a xs) none ((member_decided a xs).1 (precedes_left xs a b ((precedes_decided xs a b).0 h))))
 
 -- the first number of a line is taken out of the rest
 rest_after : (rest x : ℕ) (xs : List ℕ) → (In x xs → ⊥) → ((b : ℕ) → has rest b ≡ member b (x ∷ xs)) → (b : ℕ) → has (less rest x) b ≡ member b xs
@@ -198,7 +165,7 @@ unfolding member
 rest_after rest x xs fresh same b =
     ⊎_elim
     (λ e.
-    let gone : member x xs ≡ false = ⊎_elim (λ h. absurd (fresh ((member_decided x xs).0 h))) (λ h. h) (cases_Bool (member x xs)) in
+    let gone : member x xs ≡ false = false_from_ne_true _ (λ h. fresh ((member_decided x xs).0 h)) in
     let was : has rest x ≡ true = same x ∙ or_left (eqb x x) (member x xs) (eq-eqb x x refl) in
     subst (λ k. has (less rest x) k ≡ member k xs) (sym e) (has_less rest x ∙ ap not was ∙ sym gone))
     (λ ne. has_less_other rest x b ne ∙ same b ∙ ap (λ t. t || member b xs) (ne_eqb b x ne))
@@ -214,13 +181,9 @@ laid_step x a b xs rows rest false e fresh lt same =
     ⊎_elim
     (λ q.
     let here : has (get_or (set rows x (less rest x)) a 0) b ≡ member b xs = subst (λ k. has (get_or (set rows x (less rest x)) k 0) b ≡ member b xs) (sym q) (ap (λ r. has r b) (get_or-set_same rows x (less rest x) 0 lt) ∙ same b) in
-    here ∙ rw (eq-eqb a x q, precedes_not xs a b e) (sym (or_none (member b xs))))
+    here ∙ rw (eq-eqb a x q, precedes_not xs a b e) (sym (or-false (member b xs))))
     (λ ne. rw (ne_eqb a x ne, e) (ap (λ r. has r b) (get_or-set_other rows x a (less rest x) 0 ne)))
     (cases_eq a x)
-  where
-    or_none : (t : Bool) → (t || false) ≡ t
-    or_none true = refl
-    or_none false = refl
 
 pub laid_row : (line rows : List ℕ) (rest a b : ℕ) → Apart line → ((x : ℕ) → In x line → x < length rows) → ((k : ℕ) → has rest k ≡ member k line) → has (get_or (laid rows rest line) a 0) b ≡ cond (member a line) (precedes line a b) (has (get_or rows a 0) b)
 unfolding laid member precedes
@@ -229,13 +192,3 @@ laid_row (x ∷ xs) rows rest a b apart low same =
     let after = rest_after rest x xs apart.0 same in
     laid_row xs (set rows x (less rest x)) (less rest x) a b apart.1 (λ y h. rw (length-set rows x (less rest x)) (low y (inr h))) after
     ∙ laid_step x a b xs rows rest (member a xs) refl apart.0 (low x (inl refl)) after
-
--- rows show one order
-shown_at : (x y : Bool) → (x ≡ true → y ≡ true) → (y ≡ true → x ≡ true) → x ≡ y
-shown_at true y there back = sym (there refl)
-shown_at false true there back = back refl
-shown_at false false there back = refl
-
-pub shown_one : (rows : List ℕ) (co other : Order) → Shown rows co → Shown rows other → co ≡ other
-shown_one rows co other s t =
-    fun_ext (λ a. fun_ext (λ b. shown_at (co a b) (other a b) (λ h. (t.bits a b).1 ((s.bits a b).0 h)) (λ h. (s.bits a b).1 ((t.bits a b).0 h))))

@@ -55,17 +55,17 @@ write_alike : (e f : Event) → Alike e f → Write e → Write f
 write_alike e f a = ⊎_elim (λ k. inl (a.kind ∙ k)) (λ k. inr (a.kind ∙ k))
 
 module _ (run other : Run) (to : ℕ → ℕ) (goes : Goes run other to) where
-  write_goes : (l n : ℕ) → WriteOf run l n → WriteOf other l (to n)
+  pub write_goes : (l n : ℕ) → WriteOf run l n → WriteOf other l (to n)
   write_goes l n w =
       let t = goes n w.event w.stands in
       record { event = t.0; stands = t.1; writes = write_alike w.event t.0 t.2 w.writes; place = t.2.location ∙ w.place }
 
-  initial_goes : (l n : ℕ) → InitialOf run l n → InitialOf other l (to n)
+  pub initial_goes : (l n : ℕ) → InitialOf run l n → InitialOf other l (to n)
   initial_goes l n w =
       let t = goes n w.event w.stands in
       record { event = t.0; stands = t.1; initial = t.2.kind ∙ w.initial; place = t.2.location ∙ w.place }
 
-  settled_goes : (l n : ℕ) → SettledOf run l n → SettledOf other l (to n)
+  pub settled_goes : (l n : ℕ) → SettledOf run l n → SettledOf other l (to n)
   settled_goes l n w =
       let t = goes n w.event w.stands in
       record { event = t.0; stands = t.1; writes = write_alike w.event t.0 t.2 w.writes; settled = t.2.settled ∙ w.settled; place = t.2.location ∙ w.place }

@@ -2,6 +2,7 @@
 use Rattle.std.proofs.Common.{◌≡◌, ℕ, zero, suc, ◌+◌, ◌*◌, ◌/◌, ◌%◌, ◌<◌, ◌≤◌, Bool, true, false, cond, ltb, ◌⊎◌, List, [], ◌∷◌, length, get_or, sym, refl, ap, ◌∙◌, subst, inl, inr, ⊎_elim, zero-le, le_of_suc-le-suc, not-suc-le-zero, mul-le-mul_right, mod-lt, suc-mul, eq-or-lt_of_le, mul-pos, add-one, arith}
 use native.Mathlib.Nat.{zero-div, zero-mod}
 use Rattle.std.proofs.lemmas.Bool.{ltb-true, ltb-false, lt-ltb, le-ltb, cases_order, both_ways}
+use Rattle.std.proofs.lemmas.Bool.Decides.{nat_tests}
 use Rattle.std.proofs.lemmas.Nat.{div-add-mod', div_below}
 use Rattle.finite.specs.Lists.{In, Apart}
 use Rattle.finite.specs.Counts.{Counts}
@@ -54,16 +55,10 @@ passing_same t xs ys a b there back =
     count_unique (passing_counts t xs a) (count_same (λ x h. (back x h.0, h.1)) (λ x h. (there x h.0, h.1)) (passing_counts t ys b))
 
 -- more numbers are lower than a higher number
-lower_step : (p q x m n : ℕ) (b c : Bool) → p ≤ q → m ≤ n → ltb x p ≡ b → ltb x q ≡ c → cond b (m + 1) m ≤ cond c (n + 1) n
-lower_step p q x m n true true le before e f = omega arith
-lower_step p q x m n true false le before e f = omega (arith, ltb-true x p e, ltb-false x q f)
-lower_step p q x m n false true le before e f = omega arith
-lower_step p q x m n false false le before e f = omega arith
-
 pub lower_le : (p q : ℕ) (xs : List ℕ) → p ≤ q → lower p xs ≤ lower q xs
 unfolding passing
 lower_le p q [] le = zero-le
-lower_le p q (x ∷ xs) le = lower_step p q x (lower p xs) (lower q xs) (ltb x p) (ltb x q) le (lower_le p q xs le) refl refl
+lower_le p q (x ∷ xs) le = let before = lower_le p q xs le in grind (arith, nat_tests)
 
 -- a number is not lower than itself
 lower_self : (x : ℕ) (xs : List ℕ) → lower x (x ∷ xs) ≡ lower x xs
@@ -112,7 +107,7 @@ same_rest x y xs ys e s = record {
 }
 
 -- a lower leading digit makes a lower number
-leading : (a b f r s : ℕ) → a < b → r < f → a * f + r < b * f + s
+pub leading : (a b f r s : ℕ) → a < b → r < f → a * f + r < b * f + s
 leading a b f r s lt below = omega (arith, suc-mul a f, mul-le-mul_right f lt)
 
 -- the first number is lower: so is its digit
