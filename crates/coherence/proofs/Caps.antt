@@ -1,8 +1,10 @@
 -- Factorials as far as the code has them. Assumes nothing.
-use Rattle.std.proofs.Common.{◌≡◌, ℕ, zero, suc, ◌*◌, ◌/◌, ◌%◌, ◌<◌, ◌≤◌, min, [], ◌∷◌, get_or, sym, refl, ap, ◌∙◌, subst, ⊎_elim, le_of_suc-le-suc, mod-eq_of_lt, eq-or-lt_of_le, arith}
+use Rattle.std.proofs.Common.{◌≡◌, ℕ, zero, suc, ◌*◌, ◌/◌, ◌%◌, ◌<◌, ◌≤◌, min, Bool, not, eqb, [], ◌∷◌, get_or, sym, refl, ap, ◌∙◌, subst, ⊎_elim, le_of_suc-le-suc, mod-eq_of_lt, eq-or-lt_of_le, arith}
 use native.Mathlib.Nat.{min-eq_left, min-eq_right, div-eq_of_lt}
-use Rattle.std.proofs.lemmas.Bool.{cases_lt}
+use Rattle.std.proofs.lemmas.Bool.{cases_lt, cases_eq, false≢true}
+use Rattle.std.proofs.lemmas.Bool.Decides.{Decides-eqb, Decides-not, Decides-below_or}
 use Rattle.std.proofs.lemmas.Nat.{mul-le}
+use Rattle.run.specs.Tests.{any_below}
 use Rattle.coherence.specs.Perms.{factorial}
 use Rattle.coherence.specs.Laying.{capped}
 use Rattle.coherence.proofs.Perms.{factorial_next}
@@ -15,18 +17,12 @@ factorial_le m (suc n) le =
 
 -- the table
 in_table : (n : ℕ) → n ≤ 9 → get_or (1 ∷ 1 ∷ 2 ∷ 6 ∷ 24 ∷ 120 ∷ 720 ∷ 5040 ∷ 40320 ∷ 362880 ∷ []) n 0 ≡ factorial n
-unfolding factorial
-in_table zero le = refl
-in_table (suc zero) le = refl
-in_table (suc (suc zero)) le = refl
-in_table (suc (suc (suc zero))) le = refl
-in_table (suc (suc (suc (suc zero)))) le = refl
-in_table (suc (suc (suc (suc (suc zero))))) le = refl
-in_table (suc (suc (suc (suc (suc (suc zero)))))) le = refl
-in_table (suc (suc (suc (suc (suc (suc (suc zero))))))) le = refl
-in_table (suc (suc (suc (suc (suc (suc (suc (suc zero)))))))) le = refl
-in_table (suc (suc (suc (suc (suc (suc (suc (suc (suc zero))))))))) le = refl
-in_table (suc (suc (suc (suc (suc (suc (suc (suc (suc (suc n)))))))))) le = absurd (omega arith)
+unfolding factorial any_below
+in_table n le =
+    let table : ℕ → ℕ = λ k. get_or (1 ∷ 1 ∷ 2 ∷ 6 ∷ 24 ∷ 120 ∷ 720 ∷ 5040 ∷ 40320 ∷ 362880 ∷ []) k 0 in
+    let wrong : ℕ → Bool = λ k. not (eqb (table k) (factorial k)) in
+    let found = Decides-below_or wrong (λ k. table k ≡ factorial k → ⊥) (any_below wrong) (λ k. Decides-not _ (Decides-eqb (table k) (factorial k))) refl (λ _. refl) 10 in
+    ⊎_elim (λ e. e) (λ ne. absurd (false≢true (found.1 (n, omega arith, ne)))) (cases_eq (table n) (factorial n))
 
 nine : factorial 9 ≡ 362880
 unfolding factorial

@@ -83,36 +83,27 @@ unfolding mask_of
 mask_out p zero k le = has_none k
 mask_out p (suc n) k le = mask_step p n k (p n) (λ e. omega arith) ∙ mask_out p n k (omega arith)
 
-mask_here : (p : ℕ → Bool) (n : ℕ) (b : Bool) → has (cond b (more (mask_of p n) n) (mask_of p n)) n ≡ b
-mask_here p n true = has_more (mask_of p n) n
-mask_here p n false = mask_out p n n (omega arith)
-
 pub mask_in : (p : ℕ → Bool) (n k : ℕ) → k < n → has (mask_of p n) k ≡ p k
 unfolding mask_of
 mask_in p zero k lt = absurd (not-suc-le-zero lt)
 mask_in p (suc n) k lt =
-    ⊎_elim (λ e. subst (λ j. has (mask_of p (suc n)) j ≡ p j) (sym e) (mask_here p n (p n))) (λ ne. mask_step p n k (p n) ne ∙ mask_in p n k (omega arith)) (cases_eq k n)
+    ⊎_elim (λ e. subst (λ j. has (mask_of p (suc n)) j ≡ p j) (sym e) (elim (p n) as (λ b. has (cond b (more (mask_of p n) n) (mask_of p n)) n ≡ b) [ true ↦ has_more (mask_of p n) n | false ↦ mask_out p n n (omega arith) ])) (λ ne. mask_step p n k (p n) ne ∙ mask_in p n k (omega arith)) (cases_eq k n)
 
 -- it fits
-step_fits : (p : ℕ → Bool) (n k : ℕ) (b : Bool) → n < k → mask_of p n < 2 ^ k → cond b (more (mask_of p n) n) (mask_of p n) < 2 ^ k
-step_fits p n k true lt h = or_lt k (mask_of p n) (2 ^ n) h (pow_below n k lt)
-step_fits p n k false lt h = h
-
 mask_fits : (p : ℕ → Bool) (n k : ℕ) → n ≤ k → mask_of p n < 2 ^ k
 unfolding mask_of
 mask_fits p zero k le = pow_pos k
-mask_fits p (suc n) k le = step_fits p n k (p n) (omega arith) (mask_fits p n k (omega arith))
+mask_fits p (suc n) k le =
+    let before = mask_fits p n k (omega arith) in
+    elim (p n) as (λ b. cond b (more (mask_of p n) n) (mask_of p n) < 2 ^ k) [ true ↦ or_lt k (mask_of p n) (2 ^ n) before (pow_below n k (omega arith)) | false ↦ before ]
 
 -- a mask gathered by a test is that of what passes
-bit_from : (x y : ℕ) → x < 2 → y < 2 → eqb x 1 ≡ eqb y 1 → x ≡ y
-bit_from x y p q h = grind (arith, nat_tests)
-
 pub mask_gathered : (answers : Event → Bool → Type 0) (run : Run) (test : Event → Bool) {mask : ℕ} → ((e : Event) (b : Bool) → answers e b → b ≡ test e) → Gathered answers run mask → mask ≡ mask_of (λ n. holds (run n) test) 32
 unfolding has
 mask_gathered answers run test {mask} computes g =
     let p : ℕ → Bool = λ n. holds (run n) test in
     same_from_bits_below 32 mask (mask_of p 32) g.fits (mask_fits p 32 32 (omega arith))
-    (λ n lt. bit_from _ _ (omega arith) (omega arith) (gathered_at answers run test computes g n lt ∙ sym (mask_in p 32 n lt)))
+    (λ n lt. let same = gathered_at answers run test computes g n lt ∙ sym (mask_in p 32 n lt) in grind (arith, nat_tests))
 
 -- the numbers of a mask are those that pass
 pub those_mask : (p : ℕ → Bool) → those (has (mask_of p 32)) 32 ≡ those p 32

@@ -19,15 +19,6 @@ pub record Alike (e f : Event) : Type 0 where
 abbrev pub Goes : Run → Run → (ℕ → ℕ) → Type 0
 Goes run other to = (n : ℕ) (e : Event) → Stands run n e → (f : Event) × Stands other (to n) f × Alike e f
 
-moved_stands : (to : ℕ → ℕ) (o : Option Event) (e : Event) → o ≡ Some e → (f : Event) × (moved_event to o ≡ Some f) × Alike e f
-moved_stands to None e h = let z : ◌≡◌ {A = ℕ} 0 1 = cc in absurd (omega arith)
-moved_stands to (Some d) e h =
-    let same : d ≡ e = cc in (
-      record { kind = d.kind; thread = d.thread; step = d.step; location = d.location; value = d.value; source = moved_source to d.source; settled = d.settled },
-      refl,
-      record { kind = ap (λ x. x.kind) same; location = ap (λ x. x.location) same; settled = ap (λ x. x.settled) same },
-    )
-
 moved_from : (to : ℕ → ℕ) (o : Option Event) (f : Event) → moved_event to o ≡ Some f → (e : Event) × (o ≡ Some e) × Alike f e
 moved_from to None f h = let z : ◌≡◌ {A = ℕ} 0 1 = cc in absurd (omega arith)
 moved_from to (Some d) f h =
@@ -36,9 +27,11 @@ moved_from to (Some d) f h =
 
 module _ (run other : Run) (to from : ℕ → ℕ) (moved : Renumbered run other to from) where
   pub goes_there : Goes run other to
-  goes_there n e s =
-      let t = moved_stands to (run n) e s.1 in
-      (t.0, (moved.numbers.to_below n s.0, moved.events n s.0 ∙ t.1), t.2)
+  goes_there n e s = (
+    record { kind = e.kind; thread = e.thread; step = e.step; location = e.location; value = e.value; source = moved_source to e.source; settled = e.settled },
+    (moved.numbers.to_below n s.0, moved.events n s.0 ∙ ap (moved_event to) s.1),
+    record { kind = refl; location = refl; settled = refl },
+  )
 
   pub goes_back : Goes other run from
   goes_back m f s =

@@ -30,15 +30,15 @@ pub one_location : (run : Run) (l m n : ℕ) → WriteOf run l n → WriteOf run
 one_location run l m n w v =
     sym w.place ∙ ap (λ e. e.location) (one_event run n w.event v.event w.stands v.stands) ∙ v.place
 
+-- nothing is before what is before it
+pub never_both : (run : Run) (co : Order) → Coherence run co → (a b : ℕ) → co a b ≡ true → co b a ≡ true → ⊥
+never_both run co c a b h k = c.irreflexive a (c.transitive a b a h k)
+
 -- two coherence orders, the one within the other, are the same
 pub coherent_agree : (run : Run) (co other : Order) → Coherence run co → Coherence run other → ((a b : ℕ) → co a b ≡ true → other a b ≡ true) → co ≡ other
 coherent_agree run co other c d within =
     fun_ext (λ a. fun_ext (λ b. same_from_decides (co a b) (other a b) (λ h. h, λ h. h)
-    (λ f. let w = d.only a b f in ⊎_elim (λ h. h) (λ h. absurd (d.irreflexive a (d.transitive a b a f (within b a h)))) (c.total w.0 a b w.1 w.2 (λ same. d.irreflexive b (subst (λ x. other x b ≡ true) same f))), within a b)))
-
--- nothing is before what is before it
-pub never_both : (run : Run) (co : Order) → Coherence run co → (a b : ℕ) → co a b ≡ true → co b a ≡ true → ⊥
-never_both run co c a b h k = c.irreflexive a (c.transitive a b a h k)
+    (λ f. let w = d.only a b f in ⊎_elim (λ h. h) (λ h. absurd (never_both run other d a b f (within b a h))) (c.total w.0 a b w.1 w.2 (λ same. d.irreflexive b (subst (λ x. other x b ≡ true) same f))), within a b)))
 
 -- an order has one row at a location
 pub one_row : (run : Run) (co : Order) (l : ℕ) (row other : List ℕ) → Coherence run co → Row run co l row → Row run co l other → row ≡ other

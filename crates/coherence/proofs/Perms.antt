@@ -34,7 +34,7 @@ unfolding passing
 passing_le t [] = zero-le
 passing_le t (x ∷ xs) =
     let before = passing_le t xs in
-    elim (t x) as (λ b. cond b (passing t xs + 1) (passing t xs) ≤ suc (length xs)) [ true ↦ omega arith | false ↦ omega arith ]
+    grind arith
 
 -- an item passes, or not
 passing_step : (t : ℕ → Bool) (x : ℕ) (xs : List ℕ) (b : Bool) → t x ≡ b → Apart (x ∷ xs) → Counts (λ y. In y xs × (t y ≡ true)) (passing t xs) → Counts (λ y. In y (x ∷ xs) × (t y ≡ true)) (cond b (passing t xs + 1) (passing t xs))
