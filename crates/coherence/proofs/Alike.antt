@@ -5,7 +5,7 @@ use Rattle.run.proofs.Same.{Alike, stands_same}
 use Rattle.finite.specs.Counts.{Counts}
 use Rattle.finite.proofs.Counts.{count_same}
 use Rattle.coherence.specs.Perms.{LinesUp}
-use Rattle.coherence.specs.Coherence.{WriteOf, InitialOf, SettledOf, FreeOf, Order, Coherence}
+use Rattle.coherence.specs.Coherence.{FreeOf, Order, Coherence}
 use Rattle.coherence.specs.Numbers.{Orders, Number}
 use Rattle.coherence.specs.Laws.{OnlyBelow32}
 use Rattle.coherence.proofs.Moved.{Goes, write_goes, initial_goes, settled_goes}

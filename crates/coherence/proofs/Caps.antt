@@ -1,6 +1,6 @@
 -- Factorials as far as the code has them. Assumes nothing.
 use Rattle.std.proofs.Common.{◌≡◌, ℕ, zero, suc, ◌*◌, ◌/◌, ◌%◌, ◌<◌, ◌≤◌, min, Bool, not, eqb, [], ◌∷◌, get_or, sym, refl, ap, ◌∙◌, subst, ⊎_elim, le_of_suc-le-suc, mod-eq_of_lt, eq-or-lt_of_le, arith}
-use native.Mathlib.Nat.{min-eq_left, min-eq_right, div-eq_of_lt}
+use native.Mathlib.Nat.{div-eq_of_lt}
 use Rattle.std.proofs.lemmas.Bool.{cases_lt, cases_eq, false≢true}
 use Rattle.std.proofs.lemmas.Bool.Decides.{Decides-eqb, Decides-not, Decides-below_or}
 use Rattle.std.proofs.lemmas.Nat.{mul-le}

@@ -1,5 +1,5 @@
 -- Laying a line into rows, number by number. Assumes nothing.
-use Rattle.std.proofs.Common.{◌≡◌, ℕ, suc, ◌+◌, ◌/◌, ◌%◌, ◌<◌, Bool, List, ◌∷◌, ◌++◌, length, get_or, set, replicate, sym, refl, ap, ◌∙◌, subst, ap₂, mod-lt, add-one, arith, length-set}
+use Rattle.std.proofs.Common.{◌≡◌, ℕ, suc, ◌+◌, ◌/◌, ◌%◌, ◌<◌, Bool, List, ◌∷◌, ◌++◌, length, get_or, set, sym, refl, ap, ◌∙◌, subst, ap₂, mod-lt, add-one, arith, length-set}
 use native.Mathlib.Nat.{mod-le}
 use lib.Bits.{bit_or}
 use Rattle.std.proofs.lemmas.Nat.{div_below}

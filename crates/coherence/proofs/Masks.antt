@@ -1,12 +1,11 @@
 -- Masks: their bits, and rows with lines laid into them. Assumes nothing.
 use Rattle.std.proofs.Common.{◌≡◌, ℕ, zero, suc, ◌+◌, ◌*◌, ◌/◌, ◌%◌, ◌^◌, ◌<◌, ◌≤◌, Bool, true, false, cond, not, ◌||◌, eqb, ltb, List, [], ◌∷◌, ◌++◌, length, get_or, set, Decides, sym, refl, ap, ◌∙◌, subst, inl, inr, ⊎_elim, not-suc-le-zero, arith, length-set, get_or-set_other, get_or-set_same, mod-lt, mod-eq_of_lt, length-append}
-use mathlib.Core.Path.{fun_ext}
-use lib.Bits.{bit_or, bit_xor}
+use lib.Bits.{bit_or}
 use Rattle.std.proofs.Math.Bool.{or-false}
 use Rattle.std.proofs.lemmas.Bool.{both_ways, false_from_ne_true, cases_eq, cases_lt, eq-eqb, ne_eqb, or_left}
 use Rattle.std.proofs.lemmas.Bool.Decides.{nat_tests}
 use Rattle.std.proofs.lemmas.Nat.Bits.{bit_at-zero, bit_at_or, bit_at_xor, bit_at-pow_same, bit_at-pow_other, same_from_bits_below}
-use Rattle.std.proofs.lemmas.Nat.{or_lt, pow_below, or_shr, or_mod, xor_shr, xor_mod}
+use Rattle.std.proofs.lemmas.Nat.{or_lt, pow_below}
 use Rattle.std.specs.Int.Count.{ones, ones_in}
 use Rattle.std.specs.Int.RustNames.{count_ones}
 use Rattle.std.proofs.lemmas.Nat.{mod-pow-add, ones_cat, pow_pos}
@@ -18,8 +17,7 @@ use Rattle.run.proofs.Gathering.{gathered_at}
 use Rattle.finite.specs.Lists.{In, Apart}
 use Rattle.coherence.specs.Perms.{removed}
 use Rattle.coherence.specs.Lines.{those, member, precedes}
-use Rattle.coherence.specs.Coherence.{Order}
-use Rattle.coherence.specs.Masks.{has, more, less, mask_of, left_of, laid, Shown}
+use Rattle.coherence.specs.Masks.{has, more, less, mask_of, left_of, laid}
 use Rattle.coherence.proofs.Perms.{in_getD, removed_only, removed_all, removed_gone, removed_sorted, rising_apart}
 use Rattle.coherence.proofs.Rows.{member_decided, precedes_decided, precedes_left, sorted_one, those_in, those_has, those_rising, those_same}
 

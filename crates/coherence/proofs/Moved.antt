@@ -92,20 +92,18 @@ order_goes run other to from r there back co c =
       last = λ l a b w v ne. moved_whole from co a b w.stands.0 v.stands.0 (c.last l (from a) (from b) (write_goes other run from back l a w) (settled_goes other run from back l b v) (apart a b w.stands.0 v.stands.0 ne));
     }
 
--- what a coherence order relates is below 32
-within : (run : Run) (co : Order) (a b : ℕ) → Coherence run co → co a b ≡ true → (a < 32) × (b < 32)
-within run co a b c h = let t = c.only a b h in (t.1.stands.0, t.2.stands.0)
-
 module _ (run other : Run) (to from : ℕ → ℕ) (r : Renumbering to from) (there : Goes run other to) (back : Goes other run from) where
   pub order_one : (co co' : Order) → Coherence run co → Coherence run co' → moved_order from co ≡ moved_order from co' → co ≡ co'
   order_one co co' c c' e =
       coherent_agree run co co' c c' (λ a b h.
-      let lt = within run co a b c h in
-      let there-a = r.to_below a lt.0 in
-      let there-b = r.to_below b lt.1 in
-      let moved : moved_order from co (to a) (to b) ≡ true = moved_whole from co (to a) (to b) there-a there-b (subst₂ (λ x y. co x y ≡ true) (sym (r.from_to a lt.0)) (sym (r.from_to b lt.1)) h) in
+      let t = c.only a b h in
+      let lt = t.1.stands.0 in
+      let lt' = t.2.stands.0 in
+      let there-a = r.to_below a lt in
+      let there-b = r.to_below b lt' in
+      let moved : moved_order from co (to a) (to b) ≡ true = moved_whole from co (to a) (to b) there-a there-b (subst₂ (λ x y. co x y ≡ true) (sym (r.from_to a lt)) (sym (r.from_to b lt')) h) in
       let also : moved_order from co' (to a) (to b) ≡ true = subst (λ o. o (to a) (to b) ≡ true) e moved in
-      subst₂ (λ x y. co' x y ≡ true) (r.from_to a lt.0) (r.from_to b lt.1) (moved_parts from co' (to a) (to b) also).2)
+      subst₂ (λ x y. co' x y ≡ true) (r.from_to a lt) (r.from_to b lt') (moved_parts from co' (to a) (to b) also).2)
 
   pub order_onto : (co' : Order) → Coherence other co' → (co : Order) × Coherence run co × (moved_order from co ≡ co')
   order_onto co' c' =

@@ -1,5 +1,5 @@
 -- The orders that lines make are the coherence orders of a sound run, and each is made by its rows. Assumes nothing.
-use Rattle.std.proofs.Common.{◌≡◌, ℕ, ◌<◌, Bool, true, false, ◌⊎◌, List, ◌++◌, Decides, sym, refl, ap, ◌∙◌, subst, inl, inr, ⊎_elim}
+use Rattle.std.proofs.Common.{◌≡◌, ℕ, ◌<◌, Bool, true, ◌⊎◌, List, ◌++◌, Decides, sym, refl, ap, ◌∙◌, subst, inl, inr, ⊎_elim}
 use mathlib.Core.Path.{fun_ext}
 use Rattle.std.proofs.lemmas.Bool.Decides.{Decides-below_or, same_from_decides}
 use Rattle.run.specs.Runs.{Run}
@@ -65,17 +65,14 @@ order_same lines others same = fun_ext (λ a. fun_ext (λ b. any_same _ _ 16 (λ
 
 module _ (run : Run) (sound : Sound run) where
   module _ (lines : ℕ → List ℕ) (right : (l : ℕ) → l < 16 → Line run l (lines l)) where
-    -- what the order of lines relates, and that it relates what stands so
-    apart_from : (a b : ℕ) → order_of lines a b ≡ true → (l : ℕ) × (l < 16) × Precedes (lines l) a b
-    apart_from a b = (order_decided lines a b).0
-
+    -- it relates what stands so
     joined_from : (l a b : ℕ) → l < 16 → Precedes (lines l) a b → order_of lines a b ≡ true
     joined_from l a b lt p = (order_decided lines a b).1 (l, lt, p)
 
     lines_through : (a b c : ℕ) → order_of lines a b ≡ true → order_of lines b c ≡ true → order_of lines a c ≡ true
     lines_through a b c h k =
-        let s = apart_from a b h in
-        let t = apart_from b c k in
+        let s = (order_decided lines a b).0 h in
+        let t = (order_decided lines b c).0 k in
         let left = (right s.0 s.1).only b (precedes_right (lines s.0) a b s.2) in
         let here = (right t.0 t.1).only b (precedes_left (lines t.0) b c t.2) in
         let same = one_location run t.0 s.0 b here left in
@@ -90,8 +87,8 @@ module _ (run : Run) (sound : Sound run) where
     -- the lines of all locations make a coherence order
     pub lines_coherent : Coherence run (order_of lines)
     lines_coherent = record {
-      only = λ a b h. let t = apart_from a b h in (t.0, (right t.0 t.1).only a (precedes_left (lines t.0) a b t.2), (right t.0 t.1).only b (precedes_right (lines t.0) a b t.2));
-      irreflexive = λ a h. let t = apart_from a a h in precedes_never (lines t.0) a (right t.0 t.1).apart t.2;
+      only = λ a b h. let t = (order_decided lines a b).0 h in (t.0, (right t.0 t.1).only a (precedes_left (lines t.0) a b t.2), (right t.0 t.1).only b (precedes_right (lines t.0) a b t.2));
+      irreflexive = λ a h. let t = (order_decided lines a a).0 h in precedes_never (lines t.0) a (right t.0 t.1).apart t.2;
       transitive = lines_through;
       total = lines_total;
       first = λ l a b i w ne. let lt = located run sound l b w in joined_from l a b lt ((right l lt).first a b i w ne);

@@ -1,7 +1,7 @@
 -- Permutations: the rank of a permutation and the permutation of a rank. Assumes nothing.
 use Rattle.std.proofs.Common.{◌≡◌, ℕ, zero, suc, ◌+◌, ◌*◌, ◌/◌, ◌%◌, ◌<◌, ◌≤◌, Bool, true, false, cond, ltb, ◌⊎◌, List, [], ◌∷◌, length, get_or, sym, refl, ap, ◌∙◌, subst, inl, inr, ⊎_elim, zero-le, le_of_suc-le-suc, not-suc-le-zero, mul-le-mul_right, mod-lt, suc-mul, eq-or-lt_of_le, mul-pos, add-one, arith}
 use native.Mathlib.Nat.{zero-div, zero-mod}
-use Rattle.std.proofs.lemmas.Bool.{ltb-true, ltb-false, lt-ltb, le-ltb, cases_order, both_ways}
+use Rattle.std.proofs.lemmas.Bool.{ltb-true, lt-ltb, le-ltb, cases_order, both_ways}
 use Rattle.std.proofs.lemmas.Bool.Decides.{nat_tests}
 use Rattle.std.proofs.lemmas.Nat.{div-add-mod', div_below}
 use Rattle.finite.specs.Lists.{In, Apart}
@@ -94,7 +94,7 @@ pub same_length : (xs ys : List ℕ) → Same xs ys → length xs ≡ length ys
 same_length xs ys s = omega (arith, no_longer xs ys s.left s.there, no_longer ys xs s.right s.back)
 
 -- the first items are the same: so are the things in the rest
-rest_of : (x y : ℕ) (xs ys : List ℕ) → x ≡ y → (In x xs → ⊥) → ((z : ℕ) → In z (x ∷ xs) → In z (y ∷ ys)) → (z : ℕ) → In z xs → In z ys
+pub rest_of : (x y : ℕ) (xs ys : List ℕ) → x ≡ y → (In x xs → ⊥) → ((z : ℕ) → In z (x ∷ xs) → In z (y ∷ ys)) → (z : ℕ) → In z xs → In z ys
 rest_of x y xs ys e fresh there z h =
     ⊎_elim (λ same. absurd (fresh (subst (λ w. In w xs) (same ∙ sym e) h))) (λ k. k) (there z (inr h))
 

@@ -1,17 +1,16 @@
 -- Rows: joining lists, what stands before what, and sorting. Assumes nothing.
-use Rattle.std.proofs.Common.{◌≡◌, ℕ, zero, suc, ◌+◌, ◌<◌, Bool, true, false, cond, ◌&&◌, eqb, ltb, ◌⊎◌, List, [], ◌∷◌, ◌++◌, length, get_or, Decides, sym, refl, ap, ◌∙◌, subst, ap₂, inl, inr, ⊎_elim, le_of_suc-le-suc, not-suc-le-zero, eq-or-lt_of_le, add-one, arith, length-append}
+use Rattle.std.proofs.Common.{◌≡◌, ℕ, zero, suc, ◌+◌, ◌<◌, Bool, true, false, cond, ◌&&◌, eqb, ltb, ◌⊎◌, List, [], ◌∷◌, ◌++◌, Decides, sym, refl, ap, ◌∙◌, subst, ap₂, inl, inr, ⊎_elim, not-suc-le-zero, add-one, arith}
 use Rattle.std.proofs.lemmas.Bool.{lt-ltb, both_ways, false≢true, cases_eq}
-use Rattle.std.proofs.lemmas.List.{length_push, get_or_push, get_or_append_left}
 use Rattle.std.proofs.lemmas.Bool.Decides.{Decides-eqb, Decides-and, Decides-or}
 use mathlib.Core.List.{map-id}
 use Rattle.std.specs.List.{filter, range_with_len}
 use Rattle.std.proofs.lemmas.List.FromFn.{map-range_with_len_more}
 use Rattle.std.proofs.lemmas.List.Elements.{filter-append}
 use Rattle.finite.specs.Lists.{In, Apart}
-use Rattle.finite.specs.Counts.{count_below}
 use Rattle.coherence.specs.Perms.{Sorted, Rising}
 use Rattle.coherence.specs.Coherence.{Order}
 use Rattle.coherence.specs.Lines.{those, member, Precedes, precedes}
+use Rattle.coherence.proofs.Perms.{rest_of}
 
 -- what is in a joined list is in a part
 pub in_append : (x : ℕ) (xs ys : List ℕ) → In x (xs ++ ys) → In x xs ⊎ In x ys
@@ -119,18 +118,13 @@ sorted_head co x y xs ys never s t (inl e) k = e
 sorted_head co x y xs ys never s t (inr h) (inl f) = sym f
 sorted_head co x y xs ys never s t (inr h) (inr k) = absurd (never x y (s.0 y k) (t.0 x h))
 
--- the rest has the same items
-rest_in : (co : Order) (x y : ℕ) (xs ys : List ℕ) → ((a b : ℕ) → co a b ≡ true → co b a ≡ true → ⊥) → Sorted co (x ∷ xs) → x ≡ y → ((z : ℕ) → In z (x ∷ xs) → In z (y ∷ ys)) → (z : ℕ) → In z xs → In z ys
-rest_in co x y xs ys never s e there z h =
-    ⊎_elim (λ f. let q : z ≡ x = f ∙ sym e in absurd (never x x (s.0 x (subst (λ w. In w xs) q h)) (s.0 x (subst (λ w. In w xs) q h)))) (λ k. k) (there z (inr h))
-
 pub sorted_one : (co : Order) (xs ys : List ℕ) → ((a b : ℕ) → co a b ≡ true → co b a ≡ true → ⊥) → Sorted co xs → Sorted co ys → ((z : ℕ) → In z xs → In z ys) → ((z : ℕ) → In z ys → In z xs) → xs ≡ ys
 sorted_one co [] [] never s t there back = refl
 sorted_one co [] (y ∷ ys) never s t there back = absurd (back y (inl refl))
 sorted_one co (x ∷ xs) [] never s t there back = absurd (there x (inl refl))
 sorted_one co (x ∷ xs) (y ∷ ys) never s t there back =
     let e = sorted_head co x y xs ys never s t (there x (inl refl)) (back y (inl refl)) in
-    let rest = sorted_one co xs ys never s.1 t.1 (rest_in co x y xs ys never s e there) (rest_in co y x ys xs never t (sym e) back) in
+    let rest = sorted_one co xs ys never s.1 t.1 (rest_of x y xs ys e (λ k. never x x (s.0 x k) (s.0 x k)) there) (rest_of y x ys xs (sym e) (λ k. never y y (t.0 y k) (t.0 y k)) back) in
     cc
 
 -- a list with one more item, put where the order has it

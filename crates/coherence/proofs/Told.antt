@@ -1,15 +1,14 @@
 -- What the code tells is right: the rows show the order of the number, and the count is the product. Assumes nothing.
-use Rattle.std.proofs.Common.{◌≡◌, ℕ, zero, suc, ◌*◌, ◌/◌, ◌%◌, ◌<◌, ◌≤◌, min, Bool, true, false, cond, ◌||◌, leb, List, [], ◌∷◌, ◌++◌, length, get_or, drop, set, replicate, sym, refl, ap, ◌∙◌, subst, ap₂, inl, inr, ⊎_elim, append_assoc, append-nil, mul-pos, div-le_self, add-one, arith, length-set}
+use Rattle.std.proofs.Common.{◌≡◌, ℕ, zero, suc, ◌*◌, ◌/◌, ◌%◌, ◌<◌, ◌≤◌, min, Bool, true, false, cond, ◌||◌, leb, List, [], ◌∷◌, ◌++◌, length, get_or, drop, set, replicate, sym, refl, ap, ◌∙◌, subst, inl, inr, ⊎_elim, append_assoc, mul-pos, div-le_self, add-one, arith, length-set}
 use Rattle.std.proofs.Math.Bool.{or-false}
 use Rattle.std.proofs.lemmas.Bool.{cases_lt, false_from_ne_true, leb-true, leb-false}
-use Rattle.std.proofs.lemmas.List.{get_or-replicate, get_or_past, length-replicate, drop_all, drop-set}
-use Rattle.std.proofs.lemmas.Bool.Decides.{Decides-or, Decides-like, Decides-at, Decides-below_or, same_from_decides}
+use Rattle.std.proofs.lemmas.List.{get_or-replicate, get_or_past, length-replicate, drop-set}
+use Rattle.std.proofs.lemmas.Bool.Decides.{Decides-or, Decides-like, Decides-at, same_from_decides}
 use Rattle.std.specs.List.{fold, range_with_len}
 use Rattle.std.specs.Bool.{then_some}
 use Rattle.std.proofs.lemmas.List.Sums.{fold-append}
 use Rattle.run.specs.Runs.{Run}
 use Rattle.run.specs.Tests.{any_below}
-use Rattle.finite.specs.Lists.{In}
 use Rattle.coherence.specs.Lines.{First, Free, Last}
 use Rattle.coherence.specs.Perms.{LinesUp}
 use Rattle.coherence.specs.Coherence.{FreeOf}
@@ -19,19 +18,16 @@ use Rattle.coherence.specs.Digits.{digits_of, excess, ways, row_by, order_at}
 use Rattle.coherence.specs.Masks.{has, mask_of, Shown}
 use Rattle.coherence.specs.Laying.{capped, writes_mask, rows_at}
 use Rattle.coherence.specs.Answers.{Has, Told, Gives}
-use Rattle.coherence.proofs.Perms.{factorial_pos}
+use Rattle.coherence.proofs.Perms.{factorial_pos, lines_same}
 use Rattle.coherence.proofs.Mixed.{digits_below, digits_le, excess_none, excess_below}
 use Rattle.coherence.proofs.Caps.{capped_div, capped_mod, capped_product}
-use Rattle.coherence.proofs.Rows.{range_more, in_append, in_left, in_right, precedes_left, precedes_decided, member_decided}
+use Rattle.coherence.proofs.Rows.{range_more, in_append, in_left, in_right, precedes_left, member_decided}
 use Rattle.coherence.proofs.Masks.{has_none, has_or, mask_decided, precedes_not, laid_length, laid_row}
 use Rattle.coherence.proofs.Groups.{free_lines, line_writes, line_apart}
 use Rattle.coherence.proofs.Orders.{below_decided, order_decided, one_location}
 use Rattle.coherence.proofs.Pairing.{orders_have, row_right, order_at_coherent, order_at_number, counted_law}
 
 -- the mask of a location's writes has what its line has
-free_same : (run : Run) (l : ℕ) (row : List ℕ) (k : ℕ) → LinesUp (FreeOf run l) row → (In k row → In k (group Free run l)) × (In k (group Free run l) → In k row)
-free_same run l row k r = (λ h. (free_lines run l).all k (r.only k h), λ h. r.all k ((free_lines run l).only k h))
-
 pub writes_line : (run : Run) (l : ℕ) (row : List ℕ) (k : ℕ) → LinesUp (FreeOf run l) row → has (writes_mask run l) k ≡ member k (line run l row)
 writes_line run l row k r =
     let f : ℕ = mask_of (chosen First run l) 32 in
@@ -39,10 +35,10 @@ writes_line run l row k r =
     let t : ℕ = mask_of (chosen Last run l) 32 in
     let bits : has (writes_mask run l) k ≡ ((has f k || has e k) || has t k) = has_or _ t k ∙ ap (λ b. b || has t k) (has_or f e k) in
     let parts = Decides-or (has f k || has e k) (has t k) (Decides-or (has f k) (has e k) (mask_decided (chosen First run l) k) (mask_decided (chosen Free run l) k)) (mask_decided (chosen Last run l) k) in
-    let same = free_same run l row k r in
+    let same = lines_same row (group Free run l) r (free_lines run l) in
     let whole = Decides-like ((has f k || has e k) || has t k)
-    (⊎_elim (⊎_elim (λ h. in_left k (group First run l) _ h) (λ h. in_right k (group First run l) _ (in_left k row _ (same.1 h)))) (λ h. in_right k (group First run l) _ (in_right k row _ h)))
-    (λ h. ⊎_elim (λ i. inl (inl i)) (λ i. ⊎_elim (λ j. inl (inr (same.0 j))) inr (in_append k row (group Last run l) i)) (in_append k (group First run l) (row ++ group Last run l) h))
+    (⊎_elim (⊎_elim (λ h. in_left k (group First run l) _ h) (λ h. in_right k (group First run l) _ (in_left k row _ (same.back k h)))) (λ h. in_right k (group First run l) _ (in_right k row _ h)))
+    (λ h. ⊎_elim (λ i. inl (inl i)) (λ i. ⊎_elim (λ j. inl (inr (same.there k j))) inr (in_append k row (group Last run l) i)) (in_append k (group First run l) (row ++ group Last run l) h))
     parts in
     same_from_decides (has (writes_mask run l) k) (member k (line run l row)) (Decides-at (has (writes_mask run l) k) ((has f k || has e k) || has t k) bits whole) (member_decided k (line run l row))
 
