@@ -1,37 +1,36 @@
 -- Coherence orders and their numbers look at a run only below 32. Assumes nothing.
-use Rattle.std.proofs.Common.{ℕ, List, sym}
+use Rattle.std.proofs.Common.{ℕ, List, sym, refl}
 use Rattle.run.specs.Runs.{Run}
 use Rattle.run.proofs.Same.{Alike, stands_same}
 use Rattle.finite.specs.Counts.{Counts}
 use Rattle.finite.proofs.Counts.{count_same}
 use Rattle.coherence.specs.Perms.{LinesUp}
-use Rattle.coherence.specs.Coherence.{WriteOf, InitialOf, SettledOf, FreeOf, Order, Coherence}
+use Rattle.coherence.specs.Coherence.{FreeOf, Order, Coherence}
 use Rattle.coherence.specs.Numbers.{Orders, Number}
 use Rattle.coherence.specs.Laws.{OnlyBelow32}
+use Rattle.coherence.proofs.Moved.{Goes, write_goes, initial_goes, settled_goes}
 
 module _ (run other : Run) (same : Alike run other) where
-  write_same : (l n : ℕ) → WriteOf run l n → WriteOf other l n
-  write_same l n w = record { event = w.event; stands = stands_same run other same n w.event w.stands; writes = w.writes; place = w.place }
-
-  initial_same : (l n : ℕ) → InitialOf run l n → InitialOf other l n
-  initial_same l n w = record { event = w.event; stands = stands_same run other same n w.event w.stands; initial = w.initial; place = w.place }
-
-  settled_same : (l n : ℕ) → SettledOf run l n → SettledOf other l n
-  settled_same l n w = record { event = w.event; stands = stands_same run other same n w.event w.stands; writes = w.writes; settled = w.settled; place = w.place }
+  -- each event goes over as it is
+  goes_same : Goes run other (λ n. n)
+  goes_same n e s = (e, stands_same run other same n e s, record { kind = refl; location = refl; settled = refl })
 
   free_same : (l n : ℕ) → FreeOf run l n → FreeOf other l n
   free_same l n w = record { event = w.event; stands = stands_same run other same n w.event w.stands; writes = w.writes; not_initial = w.not_initial; unsettled = w.unsettled; place = w.place }
 
 module _ (run other : Run) (there : Alike run other) (back : Alike other run) where
   coherence_same : (co : Order) → Coherence run co → Coherence other co
-  coherence_same co c = record {
-    only = λ a b h. let t = c.only a b h in (t.0, write_same run other there t.0 a t.1, write_same run other there t.0 b t.2);
-    irreflexive = c.irreflexive;
-    transitive = c.transitive;
-    total = λ l a b w v. c.total l a b (write_same other run back l a w) (write_same other run back l b v);
-    first = λ l a b w v. c.first l a b (initial_same other run back l a w) (write_same other run back l b v);
-    last = λ l a b w v. c.last l a b (write_same other run back l a w) (settled_same other run back l b v);
-  }
+  coherence_same co c =
+      let to : Goes run other (λ n. n) = goes_same run other there in
+      let from : Goes other run (λ n. n) = goes_same other run back in
+      record {
+        only = λ a b h. let t = c.only a b h in (t.0, write_goes run other _ to t.0 a t.1, write_goes run other _ to t.0 b t.2);
+        irreflexive = c.irreflexive;
+        transitive = c.transitive;
+        total = λ l a b w v. c.total l a b (write_goes other run _ from l a w) (write_goes other run _ from l b v);
+        first = λ l a b w v. c.first l a b (initial_goes other run _ from l a w) (write_goes other run _ from l b v);
+        last = λ l a b w v. c.last l a b (write_goes other run _ from l a w) (settled_goes other run _ from l b v);
+      }
 
   free_count : (l n : ℕ) → Counts (FreeOf run l) n → Counts (FreeOf other l) n
   free_count l n = count_same (free_same run other there l) (free_same other run back l)

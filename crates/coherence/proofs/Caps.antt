@@ -1,8 +1,10 @@
 -- Factorials as far as the code has them. Assumes nothing.
-use Rattle.std.proofs.Common.{◌≡◌, ℕ, zero, suc, ◌*◌, ◌/◌, ◌%◌, ◌<◌, ◌≤◌, min, [], ◌∷◌, get_or, sym, refl, ap, ◌∙◌, subst, ⊎_elim, le_of_suc-le-suc, mod-eq_of_lt, eq-or-lt_of_le, arith}
-use native.Mathlib.Nat.{min-eq_left, min-eq_right, div-eq_of_lt}
-use Rattle.std.proofs.lemmas.Bool.{cases_lt}
+use Rattle.std.proofs.Common.{◌≡◌, ℕ, zero, suc, ◌*◌, ◌/◌, ◌%◌, ◌<◌, ◌≤◌, min, Bool, not, eqb, [], ◌∷◌, get_or, sym, refl, ap, ◌∙◌, subst, ⊎_elim, le_of_suc-le-suc, mod-eq_of_lt, eq-or-lt_of_le, arith}
+use native.Mathlib.Nat.{div-eq_of_lt}
+use Rattle.std.proofs.lemmas.Bool.{cases_lt, cases_eq, false≢true}
+use Rattle.std.proofs.lemmas.Bool.Decides.{Decides-eqb, Decides-not, Decides-below_or}
 use Rattle.std.proofs.lemmas.Nat.{mul-le}
+use Rattle.run.specs.Tests.{any_below}
 use Rattle.coherence.specs.Perms.{factorial}
 use Rattle.coherence.specs.Laying.{capped}
 use Rattle.coherence.proofs.Perms.{factorial_next}
@@ -15,18 +17,12 @@ factorial_le m (suc n) le =
 
 -- the table
 in_table : (n : ℕ) → n ≤ 9 → get_or (1 ∷ 1 ∷ 2 ∷ 6 ∷ 24 ∷ 120 ∷ 720 ∷ 5040 ∷ 40320 ∷ 362880 ∷ []) n 0 ≡ factorial n
-unfolding factorial
-in_table zero le = refl
-in_table (suc zero) le = refl
-in_table (suc (suc zero)) le = refl
-in_table (suc (suc (suc zero))) le = refl
-in_table (suc (suc (suc (suc zero)))) le = refl
-in_table (suc (suc (suc (suc (suc zero))))) le = refl
-in_table (suc (suc (suc (suc (suc (suc zero)))))) le = refl
-in_table (suc (suc (suc (suc (suc (suc (suc zero))))))) le = refl
-in_table (suc (suc (suc (suc (suc (suc (suc (suc zero)))))))) le = refl
-in_table (suc (suc (suc (suc (suc (suc (suc (suc (suc zero))))))))) le = refl
-in_table (suc (suc (suc (suc (suc (suc (suc (suc (suc (suc n)))))))))) le = absurd (omega arith)
+unfolding factorial any_below
+in_table n le =
+    let table : ℕ → ℕ = λ k. get_or (1 ∷ 1 ∷ 2 ∷ 6 ∷ 24 ∷ 120 ∷ 720 ∷ 5040 ∷ 40320 ∷ 362880 ∷ []) k 0 in
+    let wrong : ℕ → Bool = λ k. not (eqb (table k) (factorial k)) in
+    let found = Decides-below_or wrong (λ k. table k ≡ factorial k → ⊥) (any_below wrong) (λ k. Decides-not _ (Decides-eqb (table k) (factorial k))) refl (λ _. refl) 10 in
+    ⊎_elim (λ e. e) (λ ne. absurd (false≢true (found.1 (n, omega arith, ne)))) (cases_eq (table n) (factorial n))
 
 nine : factorial 9 ≡ 362880
 unfolding factorial
@@ -43,20 +39,11 @@ table_right n k e =
 -- division by a factorial is division by what the code has, below the cap
 pub capped_div : (k f : ℕ) → k < 362880 → k / capped f ≡ k / f
 capped_div k f lt =
-    ⊎_elim
-    (λ over. ap (λ d. k / d) (min-eq_right {n = 362880} {m = f} (omega arith)) ∙ div-eq_of_lt {n = k} {m = 362880} lt ∙ sym (div-eq_of_lt {n = k} {m = f} (omega arith)))
-    (λ within. ap (λ d. k / d) (min-eq_left {n = f} {m = 362880} within))
-    (cases_lt 362880 f)
+    ⊎_elim (λ over. div-eq_of_lt {n = k} {m = capped f} (omega arith) ∙ sym (div-eq_of_lt {n = k} {m = f} (omega arith))) (λ within. ap (λ d. k / d) (omega arith)) (cases_lt 362880 f)
 
 pub capped_mod : (k f : ℕ) → k < 362880 → k % capped f ≡ k % f
 capped_mod k f lt =
-    ⊎_elim
-    (λ over. ap (λ d. k % d) (min-eq_right {n = 362880} {m = f} (omega arith)) ∙ mod-eq_of_lt {n = k} {m = 362880} lt ∙ sym (mod-eq_of_lt {n = k} {m = f} (omega arith)))
-    (λ within. ap (λ d. k % d) (min-eq_left {n = f} {m = 362880} within))
-    (cases_lt 362880 f)
-
-pub capped_pos : (f : ℕ) → 0 < f → 0 < capped f
-capped_pos f lt = omega arith
+    ⊎_elim (λ over. mod-eq_of_lt {n = k} {m = capped f} (omega arith) ∙ sym (mod-eq_of_lt {n = k} {m = f} (omega arith))) (λ within. ap (λ d. k % d) (omega arith)) (cases_lt 362880 f)
 
 -- a product that is not followed above its cap
 pub capped_product : (t w : ℕ) → 0 < t → 0 < w → min (min t 5041 * capped w) 5041 ≡ min (t * w) 5041

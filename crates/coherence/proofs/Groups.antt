@@ -1,5 +1,5 @@
 -- A location's writes by their roles: in a sound run the line of a location has them all, the initial one first, a settled one last. Assumes nothing.
-use Rattle.std.proofs.Common.{◌≡◌, ℕ, ◌<◌, Bool, true, false, not, ◌&&◌, eqb, List, ◌++◌, length, Some, Decides, sym, refl, ◌∙◌, subst, inl, inr, ⊎_elim, append_assoc, arith}
+use Rattle.std.proofs.Common.{◌≡◌, ℕ, ◌<◌, true, false, not, ◌&&◌, eqb, List, ◌++◌, length, Some, Decides, sym, refl, ◌∙◌, subst, inl, inr, ⊎_elim, append_assoc, arith}
 use Rattle.std.proofs.lemmas.Bool.{both_ways, cases_Bool, not-true, not_from_false}
 use Rattle.std.proofs.lemmas.Bool.Decides.{Decides-eqb, Decides-and}
 use Rattle.run.specs.declared.event.Event.{Event}
@@ -40,14 +40,11 @@ Plays First l e = Initial e × (e.location ≡ l)
 Plays Free l e = (e.kind ≡ 1) × ((e.settled ≡ false) × (e.location ≡ l))
 Plays Last l e = (e.kind ≡ 1) × ((e.settled ≡ true) × (e.location ≡ l))
 
-unsettled_decided : (b : Bool) → Decides (not b) (b ≡ false)
-unsettled_decided b = (not-true b, not_from_false b)
-
 pub role_decided : (role : Role) (l : ℕ) (e : Event) → Decides (role_test role l e) (Plays role l e)
 role_decided First l e = Decides-and (is_initial e) (eqb e.location l) (initial_decided e) (Decides-eqb e.location l)
 role_decided Free l e =
     Decides-and (eqb e.kind 1) (not e.settled && eqb e.location l) (Decides-eqb e.kind 1)
-    (Decides-and (not e.settled) (eqb e.location l) (unsettled_decided e.settled) (Decides-eqb e.location l))
+    (Decides-and (not e.settled) (eqb e.location l) (not-true e.settled, not_from_false e.settled) (Decides-eqb e.location l))
 role_decided Last l e =
     Decides-and (eqb e.kind 1) (e.settled && eqb e.location l) (Decides-eqb e.kind 1)
     (Decides-and e.settled (eqb e.location l) (λ h. h, λ h. h) (Decides-eqb e.location l))

@@ -1,5 +1,5 @@
 -- Laying a line into rows, number by number. Assumes nothing.
-use Rattle.std.proofs.Common.{◌≡◌, ℕ, suc, ◌+◌, ◌/◌, ◌%◌, ◌<◌, Bool, List, ◌∷◌, ◌++◌, length, get_or, set, replicate, sym, refl, ap, ◌∙◌, subst, ap₂, mod-lt, add-one, arith, length-set}
+use Rattle.std.proofs.Common.{◌≡◌, ℕ, suc, ◌+◌, ◌/◌, ◌%◌, ◌<◌, Bool, List, ◌∷◌, ◌++◌, length, get_or, set, sym, refl, ap, ◌∙◌, subst, ap₂, mod-lt, add-one, arith, length-set}
 use native.Mathlib.Nat.{mod-le}
 use lib.Bits.{bit_or}
 use Rattle.std.proofs.lemmas.Nat.{div_below}
@@ -34,14 +34,6 @@ next_row group digit f size below =
     let inside : i < length (those (has group) 32) = rw size (div_below digit (factorial f) (suc f) (factorial_pos f) below) in
     ap (λ xs. get_or (those (has group) 32) i 0 ∷ nth f xs (digit % factorial f)) (sym (those_removed group i inside))
 
-laid_first : (rows : List ℕ) (rest x : ℕ) (xs : List ℕ) → laid rows rest (x ∷ xs) ≡ laid (set rows x (less rest x)) (less rest x) xs
-unfolding laid
-laid_first rows rest x xs = refl
-
-left_first : (rest x : ℕ) (xs : List ℕ) → left_of rest (x ∷ xs) ≡ left_of (less rest x) xs
-unfolding left_of
-left_first rest x xs = refl
-
 one_less : (group digit f : ℕ) → length (those (has group) 32) ≡ suc f → digit < factorial (suc f) → length (those (has (less group (get_or (those (has group) 32) (digit / factorial f) 0))) 32) ≡ f
 unfolding factorial
 one_less group digit f size below =
@@ -53,16 +45,16 @@ one_less group digit f size below =
 
 -- one number more is laid
 underway_step : (whole : List ℕ) (end : ℕ) (rows : List ℕ) (rest group digit f x : ℕ) → x ≡ get_or (those (has group) 32) (digit / factorial f) 0 → Underway whole end rows rest group digit (suc f) → Underway whole end (set rows x (less rest x)) (less rest x) (less group x) (digit % factorial f) f
+unfolding laid left_of
 underway_step whole end rows rest group digit f x e u =
     let next = subst (λ y. nth (suc f) (those (has group) 32) digit ≡ y ∷ nth f (those (has (less group y)) 32) (digit % factorial f)) (sym e) (next_row group digit f u.size u.below) in
-    let tail : List ℕ = nth f (those (has (less group x)) 32) (digit % factorial f) in
     record {
       long = length-set rows x (less rest x) ∙ u.long;
       size = subst (λ y. length (those (has (less group y)) 32) ≡ f) (sym e) (one_less group digit f u.size u.below);
       below = mod-lt digit (factorial_pos f);
       small = let le = mod-le digit (factorial f) in omega (arith, le, u.small);
-      rows_so = sym (laid_first rows rest x tail) ∙ ap (laid rows rest) (sym next) ∙ u.rows_so;
-      rest_so = sym (left_first rest x tail) ∙ ap (left_of rest) (sym next) ∙ u.rest_so;
+      rows_so = ap (laid rows rest) (sym next) ∙ u.rows_so;
+      rest_so = ap (left_of rest) (sym next) ∙ u.rest_so;
     }
 
 pub underway_more : (whole : List ℕ) (end : ℕ) (rows : List ℕ) (rest group digit left f radix x digit' group' rest' : ℕ) → Underway whole end rows rest group digit left → left ≡ suc f → radix ≡ capped (factorial f) → x ≡ get_or (those (has group) 32) (digit / radix) 0 → digit' ≡ digit % radix → group' ≡ less group x → rest' ≡ less rest x → Underway whole end (set rows x rest') rest' group' digit' f
@@ -106,10 +98,6 @@ line_laid run l digit rows rows1 rows2 rows3 first free last rest1 rest2 f r t o
     sym all ∙ ap₂ (laid rows) mask row
 
 -- the rows of one location more
-pub rows_none : (run : Run) (digits : List ℕ) → replicate 32 0 ≡ rows_at run digits 0
-unfolding rows_at
-rows_none run digits = refl
-
 pub rows_more : (run : Run) (digits rows after : List ℕ) (l : ℕ) → rows ≡ rows_at run digits l → after ≡ laid rows (writes_mask run l) (line run l (row_by run l (get_or digits l 0))) → after ≡ rows_at run digits (l + 1)
 unfolding rows_at
 rows_more run digits rows after l before step = step ∙ ap (λ xs. laid xs (writes_mask run l) (line run l (row_by run l (get_or digits l 0)))) before ∙ ap (rows_at run digits) (sym (add-one l))

@@ -1,11 +1,11 @@
 -- Masks: their bits, and rows with lines laid into them. Assumes nothing.
 use Rattle.std.proofs.Common.{◌≡◌, ℕ, zero, suc, ◌+◌, ◌*◌, ◌/◌, ◌%◌, ◌^◌, ◌<◌, ◌≤◌, Bool, true, false, cond, not, ◌||◌, eqb, ltb, List, [], ◌∷◌, ◌++◌, length, get_or, set, Decides, sym, refl, ap, ◌∙◌, subst, inl, inr, ⊎_elim, not-suc-le-zero, arith, length-set, get_or-set_other, get_or-set_same, mod-lt, mod-eq_of_lt, length-append}
-use mathlib.Core.Path.{fun_ext}
-use lib.Bits.{bit_or, bit_xor}
-use Rattle.std.proofs.lemmas.Bool.{both_ways, cases_Bool, cases_eq, cases_lt, eq-eqb, ne_eqb, or_left}
+use lib.Bits.{bit_or}
+use Rattle.std.proofs.Math.Bool.{or-false}
+use Rattle.std.proofs.lemmas.Bool.{both_ways, false_from_ne_true, cases_eq, cases_lt, eq-eqb, ne_eqb, or_left}
 use Rattle.std.proofs.lemmas.Bool.Decides.{nat_tests}
-use Rattle.std.proofs.lemmas.Nat.Bits.{bit_at-zero, bit_at-pow_same, bit_at-pow_other, same_from_bits_below}
-use Rattle.std.proofs.lemmas.Nat.{or_lt, pow_below, or_shr, or_mod, xor_shr, xor_mod}
+use Rattle.std.proofs.lemmas.Nat.Bits.{bit_at-zero, bit_at_or, bit_at_xor, bit_at-pow_same, bit_at-pow_other, same_from_bits_below}
+use Rattle.std.proofs.lemmas.Nat.{or_lt, pow_below}
 use Rattle.std.specs.Int.Count.{ones, ones_in}
 use Rattle.std.specs.Int.RustNames.{count_ones}
 use Rattle.std.proofs.lemmas.Nat.{mod-pow-add, ones_cat, pow_pos}
@@ -17,30 +17,9 @@ use Rattle.run.proofs.Gathering.{gathered_at}
 use Rattle.finite.specs.Lists.{In, Apart}
 use Rattle.coherence.specs.Perms.{removed}
 use Rattle.coherence.specs.Lines.{those, member, precedes}
-use Rattle.coherence.specs.Coherence.{Order}
-use Rattle.coherence.specs.Masks.{has, more, less, mask_of, left_of, laid, Shown}
+use Rattle.coherence.specs.Masks.{has, more, less, mask_of, left_of, laid}
 use Rattle.coherence.proofs.Perms.{in_getD, removed_only, removed_all, removed_gone, removed_sorted, rising_apart}
 use Rattle.coherence.proofs.Rows.{member_decided, precedes_decided, precedes_left, sorted_one, those_in, those_has, those_rising, those_same}
-
--- single bits
-or_bits : (u v : ℕ) → u < 2 → v < 2 → eqb (bit_or u v) 1 ≡ (eqb u 1 || eqb v 1)
-or_bits zero zero p q = refl
-or_bits zero (suc zero) p q = refl
-or_bits zero (suc (suc v)) p q = absurd (omega arith)
-or_bits (suc zero) zero p q = refl
-or_bits (suc zero) (suc zero) p q = refl
-or_bits (suc zero) (suc (suc v)) p q = absurd (omega arith)
-or_bits (suc (suc u)) v p q = absurd (omega arith)
-
-xor_off : (u : ℕ) → u < 2 → eqb (bit_xor u 0) 1 ≡ eqb u 1
-xor_off zero p = refl
-xor_off (suc zero) p = refl
-xor_off (suc (suc u)) p = absurd (omega arith)
-
-xor_on : (u : ℕ) → u < 2 → eqb (bit_xor u 1) 1 ≡ not (eqb u 1)
-xor_on zero p = refl
-xor_on (suc zero) p = refl
-xor_on (suc (suc u)) p = absurd (omega arith)
 
 -- nothing is in the empty set
 pub has_none : (k : ℕ) → has 0 k ≡ false
@@ -50,39 +29,25 @@ has_none k = ap (λ n. eqb n 1) (bit_at-zero k)
 -- what is in a set of either
 pub has_or : (a b k : ℕ) → has (bit_or a b) k ≡ (has a k || has b k)
 unfolding has
-has_or a b k =
-    let bit : bit_or a b / 2 ^ k % 2 ≡ bit_or (a / 2 ^ k % 2) (b / 2 ^ k % 2) = ap (λ n. n % 2) (or_shr a b k) ∙ or_mod (a / 2 ^ k) (b / 2 ^ k) 1 in
-    ap (λ n. eqb n 1) bit ∙ or_bits (a / 2 ^ k % 2) (b / 2 ^ k % 2) (omega arith) (omega arith)
+has_or a b k = let bit = bit_at_or a b k in grind (arith, nat_tests)
 
 -- a number more in the set
 pub has_more : (mask x : ℕ) → has (more mask x) x ≡ true
 unfolding has
-has_more mask x = has_or mask (2 ^ x) x ∙ at (has mask x)
-  where
-    at : (b : Bool) → (b || has (2 ^ x) x) ≡ true
-    at true = refl
-    at false = ap (λ n. eqb n 1) (bit_at-pow_same x)
+has_more mask x = let bit = bit_at_or mask (2 ^ x) x in let one = bit_at-pow_same x in grind (arith, nat_tests)
 
 pub has_more_other : (mask x k : ℕ) → (k ≡ x → ⊥) → has (more mask x) k ≡ has mask k
 unfolding has
-has_more_other mask x k ne = has_or mask (2 ^ x) k ∙ at (has mask k)
-  where
-    at : (b : Bool) → (b || has (2 ^ x) k) ≡ b
-    at true = refl
-    at false = ap (λ n. eqb n 1) (bit_at-pow_other x k ne)
+has_more_other mask x k ne = ap (λ n. eqb n 1) (omega (arith, bit_at_or mask (2 ^ x) k, bit_at-pow_other x k ne))
 
 -- a number less
 pub has_less : (mask x : ℕ) → has (less mask x) x ≡ not (has mask x)
 unfolding has
-has_less mask x =
-    let bit : bit_xor mask (2 ^ x) / 2 ^ x % 2 ≡ bit_xor (mask / 2 ^ x % 2) (2 ^ x / 2 ^ x % 2) = ap (λ n. n % 2) (xor_shr mask (2 ^ x) x) ∙ xor_mod (mask / 2 ^ x) (2 ^ x / 2 ^ x) 1 in
-    ap (λ n. eqb n 1) (bit ∙ ap (λ n. bit_xor (mask / 2 ^ x % 2) n) (bit_at-pow_same x)) ∙ xor_on (mask / 2 ^ x % 2) (omega arith)
+has_less mask x = let bit = bit_at_xor mask (2 ^ x) x in let one = bit_at-pow_same x in grind (arith, nat_tests)
 
 pub has_less_other : (mask x k : ℕ) → (k ≡ x → ⊥) → has (less mask x) k ≡ has mask k
 unfolding has
-has_less_other mask x k ne =
-    let bit : bit_xor mask (2 ^ x) / 2 ^ k % 2 ≡ bit_xor (mask / 2 ^ k % 2) (2 ^ x / 2 ^ k % 2) = ap (λ n. n % 2) (xor_shr mask (2 ^ x) k) ∙ xor_mod (mask / 2 ^ k) (2 ^ x / 2 ^ k) 1 in
-    ap (λ n. eqb n 1) (bit ∙ ap (λ n. bit_xor (mask / 2 ^ k % 2) n) (bit_at-pow_other x k ne)) ∙ xor_off (mask / 2 ^ k % 2) (omega arith)
+has_less_other mask x k ne = ap (λ n. eqb n 1) (omega (arith, bit_at_xor mask (2 ^ x) k, bit_at-pow_other x k ne))
 
 -- it has as many numbers as bits
 bit_size : (u : ℕ) (x : ℕ) → u < 2 → length (cond (eqb u 1) (x ∷ []) []) ≡ count_ones u
@@ -116,36 +81,27 @@ unfolding mask_of
 mask_out p zero k le = has_none k
 mask_out p (suc n) k le = mask_step p n k (p n) (λ e. omega arith) ∙ mask_out p n k (omega arith)
 
-mask_here : (p : ℕ → Bool) (n : ℕ) (b : Bool) → has (cond b (more (mask_of p n) n) (mask_of p n)) n ≡ b
-mask_here p n true = has_more (mask_of p n) n
-mask_here p n false = mask_out p n n (omega arith)
-
 pub mask_in : (p : ℕ → Bool) (n k : ℕ) → k < n → has (mask_of p n) k ≡ p k
 unfolding mask_of
 mask_in p zero k lt = absurd (not-suc-le-zero lt)
 mask_in p (suc n) k lt =
-    ⊎_elim (λ e. subst (λ j. has (mask_of p (suc n)) j ≡ p j) (sym e) (mask_here p n (p n))) (λ ne. mask_step p n k (p n) ne ∙ mask_in p n k (omega arith)) (cases_eq k n)
+    ⊎_elim (λ e. subst (λ j. has (mask_of p (suc n)) j ≡ p j) (sym e) (elim (p n) as (λ b. has (cond b (more (mask_of p n) n) (mask_of p n)) n ≡ b) [ true ↦ has_more (mask_of p n) n | false ↦ mask_out p n n (omega arith) ])) (λ ne. mask_step p n k (p n) ne ∙ mask_in p n k (omega arith)) (cases_eq k n)
 
 -- it fits
-step_fits : (p : ℕ → Bool) (n k : ℕ) (b : Bool) → n < k → mask_of p n < 2 ^ k → cond b (more (mask_of p n) n) (mask_of p n) < 2 ^ k
-step_fits p n k true lt h = or_lt k (mask_of p n) (2 ^ n) h (pow_below n k lt)
-step_fits p n k false lt h = h
-
 mask_fits : (p : ℕ → Bool) (n k : ℕ) → n ≤ k → mask_of p n < 2 ^ k
 unfolding mask_of
 mask_fits p zero k le = pow_pos k
-mask_fits p (suc n) k le = step_fits p n k (p n) (omega arith) (mask_fits p n k (omega arith))
+mask_fits p (suc n) k le =
+    let before = mask_fits p n k (omega arith) in
+    elim (p n) as (λ b. cond b (more (mask_of p n) n) (mask_of p n) < 2 ^ k) [ true ↦ or_lt k (mask_of p n) (2 ^ n) before (pow_below n k (omega arith)) | false ↦ before ]
 
 -- a mask gathered by a test is that of what passes
-bit_from : (x y : ℕ) → x < 2 → y < 2 → eqb x 1 ≡ eqb y 1 → x ≡ y
-bit_from x y p q h = grind (arith, nat_tests)
-
 pub mask_gathered : (answers : Event → Bool → Type 0) (run : Run) (test : Event → Bool) {mask : ℕ} → ((e : Event) (b : Bool) → answers e b → b ≡ test e) → Gathered answers run mask → mask ≡ mask_of (λ n. holds (run n) test) 32
 unfolding has
 mask_gathered answers run test {mask} computes g =
     let p : ℕ → Bool = λ n. holds (run n) test in
     same_from_bits_below 32 mask (mask_of p 32) g.fits (mask_fits p 32 32 (omega arith))
-    (λ n lt. bit_from _ _ (omega arith) (omega arith) (gathered_at answers run test computes g n lt ∙ sym (mask_in p 32 n lt)))
+    (λ n lt. let same = gathered_at answers run test computes g n lt ∙ sym (mask_in p 32 n lt) in grind (arith, nat_tests))
 
 -- the numbers of a mask are those that pass
 pub those_mask : (p : ℕ → Bool) → those (has (mask_of p 32)) 32 ≡ those p 32
@@ -190,7 +146,7 @@ laid_length rows rest (x ∷ xs) = laid_length (set rows x (less rest x)) (less 
 -- what is not in a list precedes nothing in it
 pub precedes_not : (xs : List ℕ) (a b : ℕ) → member a xs ≡ false → precedes xs a b ≡ false
 precedes_not xs a b none =
-    ⊎_elim (λ h. absurd (both_ways (member a xs) none ((member_decided a xs).1 (precedes_left xs a b ((precedes_decided xs a b).0 h))))) (λ h. h) (cases_Bool (precedes xs a b))
+    false_from_ne_true _ (λ h. both_ways (member a xs) none ((member_decided a xs).1 (precedes_left xs a b ((precedes_decided xs a b).0 h))))
 
 -- the first number of a line is taken out of the rest
 rest_after : (rest x : ℕ) (xs : List ℕ) → (In x xs → ⊥) → ((b : ℕ) → has rest b ≡ member b (x ∷ xs)) → (b : ℕ) → has (less rest x) b ≡ member b xs
@@ -198,7 +154,7 @@ unfolding member
 rest_after rest x xs fresh same b =
     ⊎_elim
     (λ e.
-    let gone : member x xs ≡ false = ⊎_elim (λ h. absurd (fresh ((member_decided x xs).0 h))) (λ h. h) (cases_Bool (member x xs)) in
+    let gone : member x xs ≡ false = false_from_ne_true _ (λ h. fresh ((member_decided x xs).0 h)) in
     let was : has rest x ≡ true = same x ∙ or_left (eqb x x) (member x xs) (eq-eqb x x refl) in
     subst (λ k. has (less rest x) k ≡ member k xs) (sym e) (has_less rest x ∙ ap not was ∙ sym gone))
     (λ ne. has_less_other rest x b ne ∙ same b ∙ ap (λ t. t || member b xs) (ne_eqb b x ne))
@@ -214,13 +170,9 @@ laid_step x a b xs rows rest false e fresh lt same =
     ⊎_elim
     (λ q.
     let here : has (get_or (set rows x (less rest x)) a 0) b ≡ member b xs = subst (λ k. has (get_or (set rows x (less rest x)) k 0) b ≡ member b xs) (sym q) (ap (λ r. has r b) (get_or-set_same rows x (less rest x) 0 lt) ∙ same b) in
-    here ∙ rw (eq-eqb a x q, precedes_not xs a b e) (sym (or_none (member b xs))))
+    here ∙ rw (eq-eqb a x q, precedes_not xs a b e) (sym (or-false (member b xs))))
     (λ ne. rw (ne_eqb a x ne, e) (ap (λ r. has r b) (get_or-set_other rows x a (less rest x) 0 ne)))
     (cases_eq a x)
-  where
-    or_none : (t : Bool) → (t || false) ≡ t
-    or_none true = refl
-    or_none false = refl
 
 pub laid_row : (line rows : List ℕ) (rest a b : ℕ) → Apart line → ((x : ℕ) → In x line → x < length rows) → ((k : ℕ) → has rest k ≡ member k line) → has (get_or (laid rows rest line) a 0) b ≡ cond (member a line) (precedes line a b) (has (get_or rows a 0) b)
 unfolding laid member precedes
@@ -229,13 +181,3 @@ laid_row (x ∷ xs) rows rest a b apart low same =
     let after = rest_after rest x xs apart.0 same in
     laid_row xs (set rows x (less rest x)) (less rest x) a b apart.1 (λ y h. rw (length-set rows x (less rest x)) (low y (inr h))) after
     ∙ laid_step x a b xs rows rest (member a xs) refl apart.0 (low x (inl refl)) after
-
--- rows show one order
-shown_at : (x y : Bool) → (x ≡ true → y ≡ true) → (y ≡ true → x ≡ true) → x ≡ y
-shown_at true y there back = sym (there refl)
-shown_at false true there back = back refl
-shown_at false false there back = refl
-
-pub shown_one : (rows : List ℕ) (co other : Order) → Shown rows co → Shown rows other → co ≡ other
-shown_one rows co other s t =
-    fun_ext (λ a. fun_ext (λ b. shown_at (co a b) (other a b) (λ h. (t.bits a b).1 ((s.bits a b).0 h)) (λ h. (s.bits a b).1 ((t.bits a b).0 h))))

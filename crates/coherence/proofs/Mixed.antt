@@ -3,9 +3,10 @@ use Rattle.std.proofs.Common.{◌≡◌, ℕ, zero, suc, ◌+◌, ◌*◌, ◌/�
 use native.Mathlib.Nat.{mod-le}
 use Rattle.std.proofs.lemmas.Bool.{cases_order, cases_lt}
 use Rattle.std.proofs.lemmas.List.{length_push, get_or_push, get_or_append_left, get_or_past}
-use Rattle.std.proofs.lemmas.Nat.{div-add-mod', div-mul-add, mod-mul-add}
+use Rattle.std.proofs.lemmas.Nat.{div-add-mod', same_from_place}
 use Rattle.coherence.specs.Numbers.{mixed, product}
 use Rattle.coherence.specs.Digits.{digits_of, excess}
+use Rattle.coherence.proofs.Perms.{leading}
 
 -- the digits are below their radices
 abbrev pub Digits : (ℕ → ℕ) → (ℕ → ℕ) → ℕ → Type 0
@@ -14,10 +15,6 @@ Digits radix digit m = (l : ℕ) → l < m → digit l < radix l
 -- two functions agree below a bound
 abbrev pub Agree : (ℕ → ℕ) → (ℕ → ℕ) → ℕ → Type 0
 Agree f g m = (l : ℕ) → l < m → f l ≡ g l
-
--- what agrees below a bound and at it agrees below the next
-agree_more : (f g : ℕ → ℕ) (m : ℕ) → Agree f g m → f m ≡ g m → Agree f g (suc m)
-agree_more f g m low here l lt = ⊎_elim (λ e. ap f e ∙ here ∙ ap g (sym e)) (low l) (eq-or-lt_of_le (le_of_suc-le-suc lt))
 
 pub product_same : (radix other : ℕ → ℕ) (m : ℕ) → Agree radix other m → product radix m ≡ product other m
 unfolding product
@@ -38,18 +35,13 @@ mixed_below radix digit (suc m) below =
     let before = mixed_below radix digit m (λ l lt. below l (omega arith)) in
     omega (arith, below m (omega arith), suc-mul (mixed radix digit m) (radix m), mul-le-mul_right (radix m) before)
 
--- a lower leading number makes a lower number
-leading : (a b f r s : ℕ) → a < b → r < f → a * f + r < b * f + s
-leading a b f r s lt below = omega (arith, suc-mul a f, mul-le-mul_right f lt)
-
 -- equal numbers have the same digits
 pub mixed_one : (radix digit other : ℕ → ℕ) (m : ℕ) → Digits radix digit m → Digits radix other m → mixed radix digit m ≡ mixed radix other m → Agree digit other m
 unfolding mixed
 mixed_one radix digit other zero d d' e = λ l lt. absurd (not-suc-le-zero lt)
 mixed_one radix digit other (suc m) d d' e =
-    let high : mixed radix digit m ≡ mixed radix other m = sym (div-mul-add (mixed radix digit m) (radix m) (digit m) (d m (omega arith))) ∙ ap (λ n. n / radix m) e ∙ div-mul-add (mixed radix other m) (radix m) (other m) (d' m (omega arith)) in
-    let low : digit m ≡ other m = sym (mod-mul-add (mixed radix digit m) (radix m) (digit m) (d m (omega arith))) ∙ ap (λ n. n % radix m) e ∙ mod-mul-add (mixed radix other m) (radix m) (other m) (d' m (omega arith)) in
-    agree_more digit other m (mixed_one radix digit other m (λ l lt. d l (omega arith)) (λ l lt. d' l (omega arith)) high) low
+    let t = same_from_place (mixed radix digit m) (digit m) (mixed radix other m) (other m) (radix m) (d m (omega arith)) (d' m (omega arith)) e in
+    λ l lt. ⊎_elim (λ q. ap digit q ∙ t.1 ∙ ap other (sym q)) (mixed_one radix digit other m (λ l lt. d l (omega arith)) (λ l lt. d' l (omega arith)) t.0 l) (eq-or-lt_of_le (le_of_suc-le-suc lt))
 
 -- the first place at which the digits differ
 pub record Lower (digit other : ℕ → ℕ) (m : ℕ) : Type 0 where
@@ -57,9 +49,6 @@ pub record Lower (digit other : ℕ → ℕ) (m : ℕ) : Type 0 where
   pub within : place < m
   pub alike : Agree digit other place
   pub less : digit place < other place
-
-lower_more : (digit other : ℕ → ℕ) (m : ℕ) → Lower digit other m → Lower digit other (suc m)
-lower_more digit other m h = record { place = h.place; within = omega (arith, h.within); alike = h.alike; less = h.less }
 
 -- a lower number has the lower digit at the first place where they differ
 pub mixed_lower : (radix digit other : ℕ → ℕ) (m : ℕ) → Digits radix digit m → Digits radix other m → mixed radix digit m < mixed radix other m → Lower digit other m
@@ -78,7 +67,7 @@ mixed_lower radix digit other (suc m) d d' lt =
       less = let e = ap (λ n. n * radix m) same in omega arith;
     })
     (λ differ. ⊎_elim
-    (λ less. lower_more digit other m (mixed_lower radix digit other m below below' less))
+    (λ less. let h = mixed_lower radix digit other m below below' less in record { place = h.place; within = omega (arith, h.within); alike = h.alike; less = h.less })
     (λ more. let greater = leading b a (radix m) (other m) (digit m) more (d' m (omega arith)) in absurd (omega arith))
     differ)
     (cases_order a b)

@@ -19,15 +19,6 @@ pub record Alike (e f : Event) : Type 0 where
 abbrev pub Goes : Run → Run → (ℕ → ℕ) → Type 0
 Goes run other to = (n : ℕ) (e : Event) → Stands run n e → (f : Event) × Stands other (to n) f × Alike e f
 
-moved_stands : (to : ℕ → ℕ) (o : Option Event) (e : Event) → o ≡ Some e → (f : Event) × (moved_event to o ≡ Some f) × Alike e f
-moved_stands to None e h = let z : ◌≡◌ {A = ℕ} 0 1 = cc in absurd (omega arith)
-moved_stands to (Some d) e h =
-    let same : d ≡ e = cc in (
-      record { kind = d.kind; thread = d.thread; step = d.step; location = d.location; value = d.value; source = moved_source to d.source; settled = d.settled },
-      refl,
-      record { kind = ap (λ x. x.kind) same; location = ap (λ x. x.location) same; settled = ap (λ x. x.settled) same },
-    )
-
 moved_from : (to : ℕ → ℕ) (o : Option Event) (f : Event) → moved_event to o ≡ Some f → (e : Event) × (o ≡ Some e) × Alike f e
 moved_from to None f h = let z : ◌≡◌ {A = ℕ} 0 1 = cc in absurd (omega arith)
 moved_from to (Some d) f h =
@@ -36,9 +27,11 @@ moved_from to (Some d) f h =
 
 module _ (run other : Run) (to from : ℕ → ℕ) (moved : Renumbered run other to from) where
   pub goes_there : Goes run other to
-  goes_there n e s =
-      let t = moved_stands to (run n) e s.1 in
-      (t.0, (moved.numbers.to_below n s.0, moved.events n s.0 ∙ t.1), t.2)
+  goes_there n e s = (
+    record { kind = e.kind; thread = e.thread; step = e.step; location = e.location; value = e.value; source = moved_source to e.source; settled = e.settled },
+    (moved.numbers.to_below n s.0, moved.events n s.0 ∙ ap (moved_event to) s.1),
+    record { kind = refl; location = refl; settled = refl },
+  )
 
   pub goes_back : Goes other run from
   goes_back m f s =
@@ -55,17 +48,17 @@ write_alike : (e f : Event) → Alike e f → Write e → Write f
 write_alike e f a = ⊎_elim (λ k. inl (a.kind ∙ k)) (λ k. inr (a.kind ∙ k))
 
 module _ (run other : Run) (to : ℕ → ℕ) (goes : Goes run other to) where
-  write_goes : (l n : ℕ) → WriteOf run l n → WriteOf other l (to n)
+  pub write_goes : (l n : ℕ) → WriteOf run l n → WriteOf other l (to n)
   write_goes l n w =
       let t = goes n w.event w.stands in
       record { event = t.0; stands = t.1; writes = write_alike w.event t.0 t.2 w.writes; place = t.2.location ∙ w.place }
 
-  initial_goes : (l n : ℕ) → InitialOf run l n → InitialOf other l (to n)
+  pub initial_goes : (l n : ℕ) → InitialOf run l n → InitialOf other l (to n)
   initial_goes l n w =
       let t = goes n w.event w.stands in
       record { event = t.0; stands = t.1; initial = t.2.kind ∙ w.initial; place = t.2.location ∙ w.place }
 
-  settled_goes : (l n : ℕ) → SettledOf run l n → SettledOf other l (to n)
+  pub settled_goes : (l n : ℕ) → SettledOf run l n → SettledOf other l (to n)
   settled_goes l n w =
       let t = goes n w.event w.stands in
       record { event = t.0; stands = t.1; writes = write_alike w.event t.0 t.2 w.writes; settled = t.2.settled ∙ w.settled; place = t.2.location ∙ w.place }
@@ -99,20 +92,18 @@ order_goes run other to from r there back co c =
       last = λ l a b w v ne. moved_whole from co a b w.stands.0 v.stands.0 (c.last l (from a) (from b) (write_goes other run from back l a w) (settled_goes other run from back l b v) (apart a b w.stands.0 v.stands.0 ne));
     }
 
--- what a coherence order relates is below 32
-within : (run : Run) (co : Order) (a b : ℕ) → Coherence run co → co a b ≡ true → (a < 32) × (b < 32)
-within run co a b c h = let t = c.only a b h in (t.1.stands.0, t.2.stands.0)
-
 module _ (run other : Run) (to from : ℕ → ℕ) (r : Renumbering to from) (there : Goes run other to) (back : Goes other run from) where
   pub order_one : (co co' : Order) → Coherence run co → Coherence run co' → moved_order from co ≡ moved_order from co' → co ≡ co'
   order_one co co' c c' e =
       coherent_agree run co co' c c' (λ a b h.
-      let lt = within run co a b c h in
-      let there-a = r.to_below a lt.0 in
-      let there-b = r.to_below b lt.1 in
-      let moved : moved_order from co (to a) (to b) ≡ true = moved_whole from co (to a) (to b) there-a there-b (subst₂ (λ x y. co x y ≡ true) (sym (r.from_to a lt.0)) (sym (r.from_to b lt.1)) h) in
+      let t = c.only a b h in
+      let lt = t.1.stands.0 in
+      let lt' = t.2.stands.0 in
+      let there-a = r.to_below a lt in
+      let there-b = r.to_below b lt' in
+      let moved : moved_order from co (to a) (to b) ≡ true = moved_whole from co (to a) (to b) there-a there-b (subst₂ (λ x y. co x y ≡ true) (sym (r.from_to a lt)) (sym (r.from_to b lt')) h) in
       let also : moved_order from co' (to a) (to b) ≡ true = subst (λ o. o (to a) (to b) ≡ true) e moved in
-      subst₂ (λ x y. co' x y ≡ true) (r.from_to a lt.0) (r.from_to b lt.1) (moved_parts from co' (to a) (to b) also).2)
+      subst₂ (λ x y. co' x y ≡ true) (r.from_to a lt) (r.from_to b lt') (moved_parts from co' (to a) (to b) also).2)
 
   pub order_onto : (co' : Order) → Coherence other co' → (co : Order) × Coherence run co × (moved_order from co ≡ co')
   order_onto co' c' =

@@ -1,8 +1,7 @@
 -- The orders that lines make are the coherence orders of a sound run, and each is made by its rows. Assumes nothing.
-use Rattle.std.proofs.Common.{◌≡◌, ℕ, ◌<◌, Bool, true, false, ◌⊎◌, List, ◌++◌, Decides, sym, refl, ap, ◌∙◌, subst, inl, inr, ⊎_elim}
+use Rattle.std.proofs.Common.{◌≡◌, ℕ, ◌<◌, Bool, true, ◌⊎◌, List, ◌++◌, Decides, sym, refl, ap, ◌∙◌, subst, inl, inr, ⊎_elim}
 use mathlib.Core.Path.{fun_ext}
-use Rattle.std.proofs.lemmas.Bool.{both_ways}
-use Rattle.std.proofs.lemmas.Bool.Decides.{Decides-below_or}
+use Rattle.std.proofs.lemmas.Bool.Decides.{Decides-below_or, same_from_decides}
 use Rattle.run.specs.Runs.{Run}
 use Rattle.run.specs.Rules.{Sound}
 use Rattle.run.specs.Tests.{any_below}
@@ -17,33 +16,29 @@ use Rattle.coherence.proofs.Rows.{precedes_left, precedes_right, precedes_never,
 use Rattle.coherence.proofs.Groups.{Line, one_event, free_write, free_in, free_has, group_apart, located, line_right, line_sorted}
 
 -- the order of lines relates what stands so in one of them
-pub order_decided : (lines : ℕ → List ℕ) (a b : ℕ) → Decides (order_of lines a b) ((l : ℕ) × (l < 16) × Precedes (lines l) a b)
+pub below_decided : (lines : ℕ → List ℕ) (a b m : ℕ) → Decides (any_below (λ l. precedes (lines l) a b) m) ((l : ℕ) × (l < m) × Precedes (lines l) a b)
 unfolding any_below
-order_decided lines a b =
+below_decided lines a b m =
     let p : ℕ → Bool = λ l. precedes (lines l) a b in
-    Decides-below_or p (λ l. Precedes (lines l) a b) (any_below p) (λ l. precedes_decided (lines l) a b) refl (λ _. refl) 16
+    Decides-below_or p (λ l. Precedes (lines l) a b) (any_below p) (λ l. precedes_decided (lines l) a b) refl (λ _. refl) m
+
+pub order_decided : (lines : ℕ → List ℕ) (a b : ℕ) → Decides (order_of lines a b) ((l : ℕ) × (l < 16) × Precedes (lines l) a b)
+order_decided lines a b = below_decided lines a b 16
 
 -- a write has one location
 pub one_location : (run : Run) (l m n : ℕ) → WriteOf run l n → WriteOf run m n → l ≡ m
 one_location run l m n w v =
     sym w.place ∙ ap (λ e. e.location) (one_event run n w.event v.event w.stands v.stands) ∙ v.place
 
--- two coherence orders, the one within the other, are the same
-agree_at : (run : Run) (co other : Order) (a b : ℕ) (x y : Bool) → Coherence run co → Coherence run other → ((a b : ℕ) → co a b ≡ true → other a b ≡ true) → co a b ≡ x → other a b ≡ y → x ≡ y
-agree_at run co other a b true true c d within e f = refl
-agree_at run co other a b true false c d within e f = absurd (both_ways (other a b) f (within a b e))
-agree_at run co other a b false true c d within e f =
-    let w = d.only a b f in
-    let ne : a ≡ b → ⊥ = λ same. d.irreflexive b (subst (λ x. other x b ≡ true) same f) in
-    ⊎_elim (λ h. absurd (both_ways (co a b) e h)) (λ h. absurd (d.irreflexive a (d.transitive a b a f (within b a h)))) (c.total w.0 a b w.1 w.2 ne)
-agree_at run co other a b false false c d within e f = refl
-
-pub coherent_agree : (run : Run) (co other : Order) → Coherence run co → Coherence run other → ((a b : ℕ) → co a b ≡ true → other a b ≡ true) → co ≡ other
-coherent_agree run co other c d within = fun_ext (λ a. fun_ext (λ b. agree_at run co other a b (co a b) (other a b) c d within refl refl))
-
 -- nothing is before what is before it
 pub never_both : (run : Run) (co : Order) → Coherence run co → (a b : ℕ) → co a b ≡ true → co b a ≡ true → ⊥
 never_both run co c a b h k = c.irreflexive a (c.transitive a b a h k)
+
+-- two coherence orders, the one within the other, are the same
+pub coherent_agree : (run : Run) (co other : Order) → Coherence run co → Coherence run other → ((a b : ℕ) → co a b ≡ true → other a b ≡ true) → co ≡ other
+coherent_agree run co other c d within =
+    fun_ext (λ a. fun_ext (λ b. same_from_decides (co a b) (other a b) (λ h. h, λ h. h)
+    (λ f. let w = d.only a b f in ⊎_elim (λ h. h) (λ h. absurd (never_both run other d a b f (within b a h))) (c.total w.0 a b w.1 w.2 (λ same. d.irreflexive b (subst (λ x. other x b ≡ true) same f))), within a b)))
 
 -- an order has one row at a location
 pub one_row : (run : Run) (co : Order) (l : ℕ) (row other : List ℕ) → Coherence run co → Row run co l row → Row run co l other → row ≡ other
@@ -70,17 +65,14 @@ order_same lines others same = fun_ext (λ a. fun_ext (λ b. any_same _ _ 16 (λ
 
 module _ (run : Run) (sound : Sound run) where
   module _ (lines : ℕ → List ℕ) (right : (l : ℕ) → l < 16 → Line run l (lines l)) where
-    -- what the order of lines relates, and that it relates what stands so
-    apart_from : (a b : ℕ) → order_of lines a b ≡ true → (l : ℕ) × (l < 16) × Precedes (lines l) a b
-    apart_from a b = (order_decided lines a b).0
-
+    -- it relates what stands so
     joined_from : (l a b : ℕ) → l < 16 → Precedes (lines l) a b → order_of lines a b ≡ true
     joined_from l a b lt p = (order_decided lines a b).1 (l, lt, p)
 
     lines_through : (a b c : ℕ) → order_of lines a b ≡ true → order_of lines b c ≡ true → order_of lines a c ≡ true
     lines_through a b c h k =
-        let s = apart_from a b h in
-        let t = apart_from b c k in
+        let s = (order_decided lines a b).0 h in
+        let t = (order_decided lines b c).0 k in
         let left = (right s.0 s.1).only b (precedes_right (lines s.0) a b s.2) in
         let here = (right t.0 t.1).only b (precedes_left (lines t.0) b c t.2) in
         let same = one_location run t.0 s.0 b here left in
@@ -95,8 +87,8 @@ module _ (run : Run) (sound : Sound run) where
     -- the lines of all locations make a coherence order
     pub lines_coherent : Coherence run (order_of lines)
     lines_coherent = record {
-      only = λ a b h. let t = apart_from a b h in (t.0, (right t.0 t.1).only a (precedes_left (lines t.0) a b t.2), (right t.0 t.1).only b (precedes_right (lines t.0) a b t.2));
-      irreflexive = λ a h. let t = apart_from a a h in precedes_never (lines t.0) a (right t.0 t.1).apart t.2;
+      only = λ a b h. let t = (order_decided lines a b).0 h in (t.0, (right t.0 t.1).only a (precedes_left (lines t.0) a b t.2), (right t.0 t.1).only b (precedes_right (lines t.0) a b t.2));
+      irreflexive = λ a h. let t = (order_decided lines a a).0 h in precedes_never (lines t.0) a (right t.0 t.1).apart t.2;
       transitive = lines_through;
       total = lines_total;
       first = λ l a b i w ne. let lt = located run sound l b w in joined_from l a b lt ((right l lt).first a b i w ne);

@@ -134,10 +134,11 @@ pairing_law run n sound o =
     }
 
 pub counted_law : Counted
+unfolding pairing_law
 counted_law run n sound o =
     let p = pairing_law run n sound o in
     count_carried (order_at run)
     (λ k lt. order_at_coherent run sound k)
-    (λ j k lt lt' e. one_number run sound (order_at run k) j k (order_at_coherent run sound k) (subst (λ co. Number run co j) e (order_at_number run sound j (subst (λ m. j < m) (orders_are run n o) lt))) (order_at_number run sound k (subst (λ m. k < m) (orders_are run n o) lt')))
-    (λ co c. let t = p.has_number co c in (t.0, t.1, one_order run sound t.0 (order_at run t.0) co (order_at_coherent run sound t.0) c (order_at_number run sound t.0 (subst (λ m. t.0 < m) (orders_are run n o) t.1)) t.2))
+    (λ j k lt lt' e. one_number run sound (order_at run k) j k (order_at_coherent run sound k) (subst (λ co. Number run co j) e (p.has_order j lt).2) (p.has_order k lt').2)
+    (λ co c. let t = p.has_number co c in (t.0, t.1, one_order run sound t.0 (order_at run t.0) co (order_at_coherent run sound t.0) c (p.has_order t.0 t.1).2 t.2))
     (count_numbers n)

@@ -1,7 +1,8 @@
 -- Permutations: the rank of a permutation and the permutation of a rank. Assumes nothing.
 use Rattle.std.proofs.Common.{◌≡◌, ℕ, zero, suc, ◌+◌, ◌*◌, ◌/◌, ◌%◌, ◌<◌, ◌≤◌, Bool, true, false, cond, ltb, ◌⊎◌, List, [], ◌∷◌, length, get_or, sym, refl, ap, ◌∙◌, subst, inl, inr, ⊎_elim, zero-le, le_of_suc-le-suc, not-suc-le-zero, mul-le-mul_right, mod-lt, suc-mul, eq-or-lt_of_le, mul-pos, add-one, arith}
 use native.Mathlib.Nat.{zero-div, zero-mod}
-use Rattle.std.proofs.lemmas.Bool.{ltb-true, ltb-false, lt-ltb, le-ltb, cases_order, both_ways}
+use Rattle.std.proofs.lemmas.Bool.{ltb-true, lt-ltb, le-ltb, cases_order, both_ways}
+use Rattle.std.proofs.lemmas.Bool.Decides.{nat_tests}
 use Rattle.std.proofs.lemmas.Nat.{div-add-mod', div_below}
 use Rattle.finite.specs.Lists.{In, Apart}
 use Rattle.finite.specs.Counts.{Counts}
@@ -33,7 +34,7 @@ unfolding passing
 passing_le t [] = zero-le
 passing_le t (x ∷ xs) =
     let before = passing_le t xs in
-    elim (t x) as (λ b. cond b (passing t xs + 1) (passing t xs) ≤ suc (length xs)) [ true ↦ omega arith | false ↦ omega arith ]
+    grind arith
 
 -- an item passes, or not
 passing_step : (t : ℕ → Bool) (x : ℕ) (xs : List ℕ) (b : Bool) → t x ≡ b → Apart (x ∷ xs) → Counts (λ y. In y xs × (t y ≡ true)) (passing t xs) → Counts (λ y. In y (x ∷ xs) × (t y ≡ true)) (cond b (passing t xs + 1) (passing t xs))
@@ -54,16 +55,10 @@ passing_same t xs ys a b there back =
     count_unique (passing_counts t xs a) (count_same (λ x h. (back x h.0, h.1)) (λ x h. (there x h.0, h.1)) (passing_counts t ys b))
 
 -- more numbers are lower than a higher number
-lower_step : (p q x m n : ℕ) (b c : Bool) → p ≤ q → m ≤ n → ltb x p ≡ b → ltb x q ≡ c → cond b (m + 1) m ≤ cond c (n + 1) n
-lower_step p q x m n true true le before e f = omega arith
-lower_step p q x m n true false le before e f = omega (arith, ltb-true x p e, ltb-false x q f)
-lower_step p q x m n false true le before e f = omega arith
-lower_step p q x m n false false le before e f = omega arith
-
 pub lower_le : (p q : ℕ) (xs : List ℕ) → p ≤ q → lower p xs ≤ lower q xs
 unfolding passing
 lower_le p q [] le = zero-le
-lower_le p q (x ∷ xs) le = lower_step p q x (lower p xs) (lower q xs) (ltb x p) (ltb x q) le (lower_le p q xs le) refl refl
+lower_le p q (x ∷ xs) le = let before = lower_le p q xs le in grind (arith, nat_tests)
 
 -- a number is not lower than itself
 lower_self : (x : ℕ) (xs : List ℕ) → lower x (x ∷ xs) ≡ lower x xs
@@ -99,7 +94,7 @@ pub same_length : (xs ys : List ℕ) → Same xs ys → length xs ≡ length ys
 same_length xs ys s = omega (arith, no_longer xs ys s.left s.there, no_longer ys xs s.right s.back)
 
 -- the first items are the same: so are the things in the rest
-rest_of : (x y : ℕ) (xs ys : List ℕ) → x ≡ y → (In x xs → ⊥) → ((z : ℕ) → In z (x ∷ xs) → In z (y ∷ ys)) → (z : ℕ) → In z xs → In z ys
+pub rest_of : (x y : ℕ) (xs ys : List ℕ) → x ≡ y → (In x xs → ⊥) → ((z : ℕ) → In z (x ∷ xs) → In z (y ∷ ys)) → (z : ℕ) → In z xs → In z ys
 rest_of x y xs ys e fresh there z h =
     ⊎_elim (λ same. absurd (fresh (subst (λ w. In w xs) (same ∙ sym e) h))) (λ k. k) (there z (inr h))
 
@@ -112,7 +107,7 @@ same_rest x y xs ys e s = record {
 }
 
 -- a lower leading digit makes a lower number
-leading : (a b f r s : ℕ) → a < b → r < f → a * f + r < b * f + s
+pub leading : (a b f r s : ℕ) → a < b → r < f → a * f + r < b * f + s
 leading a b f r s lt below = omega (arith, suc-mul a f, mul-le-mul_right f lt)
 
 -- the first number is lower: so is its digit

@@ -1,17 +1,16 @@
 -- Rows: joining lists, what stands before what, and sorting. Assumes nothing.
-use Rattle.std.proofs.Common.{◌≡◌, ℕ, zero, suc, ◌+◌, ◌<◌, Bool, true, false, cond, ◌&&◌, eqb, ltb, ◌⊎◌, List, [], ◌∷◌, ◌++◌, length, get_or, Decides, sym, refl, ap, ◌∙◌, subst, ap₂, inl, inr, ⊎_elim, le_of_suc-le-suc, not-suc-le-zero, eq-or-lt_of_le, add-one, arith, length-append}
+use Rattle.std.proofs.Common.{◌≡◌, ℕ, zero, suc, ◌+◌, ◌<◌, Bool, true, false, cond, ◌&&◌, eqb, ltb, ◌⊎◌, List, [], ◌∷◌, ◌++◌, Decides, sym, refl, ap, ◌∙◌, subst, ap₂, inl, inr, ⊎_elim, not-suc-le-zero, add-one, arith}
 use Rattle.std.proofs.lemmas.Bool.{lt-ltb, both_ways, false≢true, cases_eq}
-use Rattle.std.proofs.lemmas.List.{length_push, get_or_push, get_or_append_left}
 use Rattle.std.proofs.lemmas.Bool.Decides.{Decides-eqb, Decides-and, Decides-or}
 use mathlib.Core.List.{map-id}
 use Rattle.std.specs.List.{filter, range_with_len}
 use Rattle.std.proofs.lemmas.List.FromFn.{map-range_with_len_more}
 use Rattle.std.proofs.lemmas.List.Elements.{filter-append}
 use Rattle.finite.specs.Lists.{In, Apart}
-use Rattle.finite.specs.Counts.{count_below}
 use Rattle.coherence.specs.Perms.{Sorted, Rising}
 use Rattle.coherence.specs.Coherence.{Order}
 use Rattle.coherence.specs.Lines.{those, member, Precedes, precedes}
+use Rattle.coherence.proofs.Perms.{rest_of}
 
 -- what is in a joined list is in a part
 pub in_append : (x : ℕ) (xs ys : List ℕ) → In x (xs ++ ys) → In x xs ⊎ In x ys
@@ -119,18 +118,13 @@ sorted_head co x y xs ys never s t (inl e) k = e
 sorted_head co x y xs ys never s t (inr h) (inl f) = sym f
 sorted_head co x y xs ys never s t (inr h) (inr k) = absurd (never x y (s.0 y k) (t.0 x h))
 
--- the rest has the same items
-rest_in : (co : Order) (x y : ℕ) (xs ys : List ℕ) → ((a b : ℕ) → co a b ≡ true → co b a ≡ true → ⊥) → Sorted co (x ∷ xs) → x ≡ y → ((z : ℕ) → In z (x ∷ xs) → In z (y ∷ ys)) → (z : ℕ) → In z xs → In z ys
-rest_in co x y xs ys never s e there z h =
-    ⊎_elim (λ f. let q : z ≡ x = f ∙ sym e in absurd (never x x (s.0 x (subst (λ w. In w xs) q h)) (s.0 x (subst (λ w. In w xs) q h)))) (λ k. k) (there z (inr h))
-
 pub sorted_one : (co : Order) (xs ys : List ℕ) → ((a b : ℕ) → co a b ≡ true → co b a ≡ true → ⊥) → Sorted co xs → Sorted co ys → ((z : ℕ) → In z xs → In z ys) → ((z : ℕ) → In z ys → In z xs) → xs ≡ ys
 sorted_one co [] [] never s t there back = refl
 sorted_one co [] (y ∷ ys) never s t there back = absurd (back y (inl refl))
 sorted_one co (x ∷ xs) [] never s t there back = absurd (there x (inl refl))
 sorted_one co (x ∷ xs) (y ∷ ys) never s t there back =
     let e = sorted_head co x y xs ys never s t (there x (inl refl)) (back y (inl refl)) in
-    let rest = sorted_one co xs ys never s.1 t.1 (rest_in co x y xs ys never s e there) (rest_in co y x ys xs never t (sym e) back) in
+    let rest = sorted_one co xs ys never s.1 t.1 (rest_of x y xs ys e (λ k. never x x (s.0 x k) (s.0 x k)) there) (rest_of y x ys xs (sym e) (λ k. never y y (t.0 y k) (t.0 y k)) back) in
     cc
 
 -- a list with one more item, put where the order has it
@@ -142,14 +136,12 @@ unfoldable pub sort : Order → List ℕ → List ℕ
 sort co [] = []
 sort co (x ∷ xs) = insert co x (sort co xs)
 
-insert_from : (co : Order) (a x z : ℕ) (xs : List ℕ) (b : Bool) → (In z (insert co a xs) → (z ≡ a) ⊎ In z xs) → In z (cond b (a ∷ (x ∷ xs)) (x ∷ insert co a xs)) → (z ≡ a) ⊎ In z (x ∷ xs)
-insert_from co a x z xs true deeper h = h
-insert_from co a x z xs false deeper h = ⊎_elim (λ e. inr (inl e)) (λ k. ⊎_elim inl (λ i. inr (inr i)) (deeper k)) h
-
 insert_in : (co : Order) (a z : ℕ) (xs : List ℕ) → In z (insert co a xs) → (z ≡ a) ⊎ In z xs
 unfolding insert
 insert_in co a z [] h = h
-insert_in co a z (x ∷ xs) h = insert_from co a x z xs (co a x) (insert_in co a z xs) h
+insert_in co a z (x ∷ xs) h =
+    (elim (co a x) as (λ b. In z (cond b (a ∷ (x ∷ xs)) (x ∷ insert co a xs)) → (z ≡ a) ⊎ In z (x ∷ xs))
+    [ true ↦ λ k. k | false ↦ ⊎_elim (λ e. inr (inl e)) (λ k. ⊎_elim inl (λ i. inr (inr i)) (insert_in co a z xs k)) ]) h
 
 insert_has : (co : Order) (a z : ℕ) (xs : List ℕ) → (z ≡ a) ⊎ In z xs → In z (insert co a xs)
 unfolding insert
@@ -192,26 +184,22 @@ sort_sorted co (x ∷ xs) a through one =
     (sort_sorted co xs a.1 through (λ y z h k. one y z (inr h) (inr k)))
 
 -- the numbers below a bound that pass a test: one more number
-those_last : (p : ℕ → Bool) (n x : ℕ) (b : Bool) → p n ≡ b → In x (cond b (n ∷ []) []) → (x ≡ n) × (p x ≡ true)
-those_last p n x true e (inl f) = (f, ap p f ∙ e)
-those_last p n x true e (inr h) = absurd h
-those_last p n x false e h = absurd h
+those_last : (n x : ℕ) (b : Bool) → In x (cond b (n ∷ []) []) → (x ≡ n) × (b ≡ true)
+those_last n x true (inl f) = (f, refl)
+those_last n x true (inr h) = absurd h
+those_last n x false h = absurd h
 
 pub those_in : (p : ℕ → Bool) (n x : ℕ) → In x (those p n) → (x < n) × (p x ≡ true)
 unfolding those
 those_in p zero x h = absurd h
 those_in p (suc n) x h =
-    ⊎_elim (λ k. let t = those_in p n x k in (omega (arith, t.0), t.1)) (λ k. let t = those_last p n x (p n) refl k in (omega (arith, t.0), t.1)) (in_append x (those p n) (cond (p n) (n ∷ []) []) h)
-
-those_here : (p : ℕ → Bool) (n x : ℕ) (b : Bool) → p n ≡ b → x ≡ n → p x ≡ true → In x (cond b (n ∷ []) [])
-those_here p n x true e f h = inl f
-those_here p n x false e f h = absurd (both_ways (p n) e (sym (ap p f) ∙ h))
+    ⊎_elim (λ k. let t = those_in p n x k in (omega (arith, t.0), t.1)) (λ k. let t = those_last n x (p n) k in (omega (arith, t.0), ap p t.0 ∙ t.1)) (in_append x (those p n) (cond (p n) (n ∷ []) []) h)
 
 pub those_has : (p : ℕ → Bool) (n x : ℕ) → x < n → p x ≡ true → In x (those p n)
 unfolding those
 those_has p zero x lt h = absurd (not-suc-le-zero lt)
 those_has p (suc n) x lt h =
-    ⊎_elim (λ e. in_right x (those p n) (cond (p n) (n ∷ []) []) (those_here p n x (p n) refl e h)) (λ ne. let less : x < n = omega arith in in_left x (those p n) (cond (p n) (n ∷ []) []) (those_has p n x less h)) (cases_eq x n)
+    ⊎_elim (λ e. in_right x (those p n) (cond (p n) (n ∷ []) []) (subst (λ b. In x (cond b (n ∷ []) [])) (sym h ∙ ap p e) (inl e))) (λ ne. let less : x < n = omega arith in in_left x (those p n) (cond (p n) (n ∷ []) []) (those_has p n x less h)) (cases_eq x n)
 
 -- they rise
 last_rising : (n : ℕ) (b : Bool) → Rising (cond b (n ∷ []) [])
@@ -223,17 +211,7 @@ unfolding those
 those_rising p zero = tt
 those_rising p (suc n) =
     sorted_append ltb (those p n) (cond (p n) (n ∷ []) []) (those_rising p n) (last_rising n (p n))
-    (λ x y h k. let s = those_in p n x h in let t = those_last p n y (p n) refl k in lt-ltb x y (omega (arith, s.0, t.0)))
-
--- they are as many as are counted
-those_step : (n m : ℕ) (xs : List ℕ) (b : Bool) → length xs ≡ m → length (xs ++ cond b (n ∷ []) []) ≡ cond b (m + 1) m
-those_step n m xs true e = length-append xs (n ∷ []) ∙ ap (λ k. k + 1) e
-those_step n m xs false e = let h = length-append xs [] in omega arith
-
-pub those_length : (p : ℕ → Bool) (n : ℕ) → length (those p n) ≡ count_below p n
-unfolding those count_below
-those_length p zero = refl
-those_length p (suc n) = those_step n (count_below p n) (those p n) (p n) (those_length p n)
+    (λ x y h k. let s = those_in p n x h in let t = those_last n y (p n) k in lt-ltb x y (omega (arith, s.0, t.0)))
 
 -- a range of one number more
 pub range_more : (n : ℕ) → range_with_len 0 (suc n) ≡ range_with_len 0 n ++ (n ∷ [])
@@ -247,22 +225,6 @@ unfolding those
 those_filter p zero = refl
 those_filter p (suc n) =
     ap (λ xs. xs ++ cond (p n) (n ∷ []) []) (those_filter p n) ∙ sym (ap (filter p) (range_more n) ∙ filter-append p (range_with_len 0 n) (n ∷ []))
-
--- a number that passes stands at the place that the lower ones leave
-those_place : (p : ℕ → Bool) (n m : ℕ) → n < m → p n ≡ true → (length (those p n) < length (those p m)) × (get_or (those p m) (length (those p n)) 0 ≡ n)
-unfolding those
-those_place p n zero lt h = absurd (not-suc-le-zero lt)
-those_place p n (suc m) lt h =
-    ⊎_elim
-    (λ e. let last : those p (suc m) ≡ those p n ++ (n ∷ []) = subst (λ k. those p k ++ cond (p k) (k ∷ []) [] ≡ those p n ++ (n ∷ [])) e (ap (λ b. those p n ++ cond b (n ∷ []) []) h) in (
-      let long = length_push (those p n) n in subst (λ xs. length (those p n) < length xs) (sym last) (omega arith),
-      subst (λ xs. get_or xs (length (those p n)) 0 ≡ n) (sym last) (get_or_push (those p n) n 0 (length (those p n)) refl),
-    ))
-    (λ less. let t = those_place p n m less h in (
-      let long = length-append (those p m) (cond (p m) (m ∷ []) []) in omega (arith, t.0, long),
-      get_or_append_left (those p m) (cond (p m) (m ∷ []) []) 0 (length (those p n)) t.0 ∙ t.1,
-    ))
-    (eq-or-lt_of_le (le_of_suc-le-suc lt))
 
 -- tests that agree below the bound choose the same numbers
 pub those_same : (p q : ℕ → Bool) (n : ℕ) → ((k : ℕ) → k < n → p k ≡ q k) → those p n ≡ those q n

@@ -1,14 +1,14 @@
 -- What the code tells is right: the rows show the order of the number, and the count is the product. Assumes nothing.
-use Rattle.std.proofs.Common.{◌≡◌, ℕ, zero, suc, ◌*◌, ◌/◌, ◌%◌, ◌<◌, ◌≤◌, min, Bool, true, false, cond, ◌||◌, leb, List, [], ◌∷◌, ◌++◌, length, get_or, drop, set, replicate, sym, refl, ap, ◌∙◌, subst, ap₂, inl, inr, ⊎_elim, append_assoc, append-nil, mul-pos, div-le_self, add-one, arith, length-set}
-use Rattle.std.proofs.lemmas.Bool.{cases_Bool, cases_lt, leb-true, leb-false}
-use Rattle.std.proofs.lemmas.List.{get_or-replicate, get_or_past, length-replicate, drop_all, drop-set}
-use Rattle.std.proofs.lemmas.Bool.Decides.{Decides-or, Decides-like, Decides-at, Decides-below_or, same_from_decides}
+use Rattle.std.proofs.Common.{◌≡◌, ℕ, zero, suc, ◌*◌, ◌/◌, ◌%◌, ◌<◌, ◌≤◌, min, Bool, true, false, cond, ◌||◌, leb, List, [], ◌∷◌, ◌++◌, length, get_or, drop, set, replicate, sym, refl, ap, ◌∙◌, subst, inl, inr, ⊎_elim, append_assoc, mul-pos, div-le_self, add-one, arith, length-set}
+use Rattle.std.proofs.Math.Bool.{or-false}
+use Rattle.std.proofs.lemmas.Bool.{cases_lt, false_from_ne_true, leb-true, leb-false}
+use Rattle.std.proofs.lemmas.List.{get_or-replicate, get_or_past, length-replicate, drop-set}
+use Rattle.std.proofs.lemmas.Bool.Decides.{Decides-or, Decides-like, Decides-at, same_from_decides}
 use Rattle.std.specs.List.{fold, range_with_len}
 use Rattle.std.specs.Bool.{then_some}
 use Rattle.std.proofs.lemmas.List.Sums.{fold-append}
 use Rattle.run.specs.Runs.{Run}
 use Rattle.run.specs.Tests.{any_below}
-use Rattle.finite.specs.Lists.{In}
 use Rattle.coherence.specs.Lines.{First, Free, Last}
 use Rattle.coherence.specs.Perms.{LinesUp}
 use Rattle.coherence.specs.Coherence.{FreeOf}
@@ -18,19 +18,16 @@ use Rattle.coherence.specs.Digits.{digits_of, excess, ways, row_by, order_at}
 use Rattle.coherence.specs.Masks.{has, mask_of, Shown}
 use Rattle.coherence.specs.Laying.{capped, writes_mask, rows_at}
 use Rattle.coherence.specs.Answers.{Has, Told, Gives}
-use Rattle.coherence.proofs.Perms.{factorial_pos}
+use Rattle.coherence.proofs.Perms.{factorial_pos, lines_same}
 use Rattle.coherence.proofs.Mixed.{digits_below, digits_le, excess_none, excess_below}
 use Rattle.coherence.proofs.Caps.{capped_div, capped_mod, capped_product}
-use Rattle.coherence.proofs.Rows.{range_more, in_append, in_left, in_right, precedes_left, precedes_decided, member_decided}
+use Rattle.coherence.proofs.Rows.{range_more, in_append, in_left, in_right, precedes_left, member_decided}
 use Rattle.coherence.proofs.Masks.{has_none, has_or, mask_decided, precedes_not, laid_length, laid_row}
 use Rattle.coherence.proofs.Groups.{free_lines, line_writes, line_apart}
-use Rattle.coherence.proofs.Orders.{order_decided, one_location}
+use Rattle.coherence.proofs.Orders.{below_decided, order_decided, one_location}
 use Rattle.coherence.proofs.Pairing.{orders_have, row_right, order_at_coherent, order_at_number, counted_law}
 
 -- the mask of a location's writes has what its line has
-free_same : (run : Run) (l : ℕ) (row : List ℕ) (k : ℕ) → LinesUp (FreeOf run l) row → (In k row → In k (group Free run l)) × (In k (group Free run l) → In k row)
-free_same run l row k r = (λ h. (free_lines run l).all k (r.only k h), λ h. r.all k ((free_lines run l).only k h))
-
 pub writes_line : (run : Run) (l : ℕ) (row : List ℕ) (k : ℕ) → LinesUp (FreeOf run l) row → has (writes_mask run l) k ≡ member k (line run l row)
 writes_line run l row k r =
     let f : ℕ = mask_of (chosen First run l) 32 in
@@ -38,10 +35,10 @@ writes_line run l row k r =
     let t : ℕ = mask_of (chosen Last run l) 32 in
     let bits : has (writes_mask run l) k ≡ ((has f k || has e k) || has t k) = has_or _ t k ∙ ap (λ b. b || has t k) (has_or f e k) in
     let parts = Decides-or (has f k || has e k) (has t k) (Decides-or (has f k) (has e k) (mask_decided (chosen First run l) k) (mask_decided (chosen Free run l) k)) (mask_decided (chosen Last run l) k) in
-    let same = free_same run l row k r in
+    let same = lines_same row (group Free run l) r (free_lines run l) in
     let whole = Decides-like ((has f k || has e k) || has t k)
-    (⊎_elim (⊎_elim (λ h. in_left k (group First run l) _ h) (λ h. in_right k (group First run l) _ (in_left k row _ (same.1 h)))) (λ h. in_right k (group First run l) _ (in_right k row _ h)))
-    (λ h. ⊎_elim (λ i. inl (inl i)) (λ i. ⊎_elim (λ j. inl (inr (same.0 j))) inr (in_append k row (group Last run l) i)) (in_append k (group First run l) (row ++ group Last run l) h))
+    (⊎_elim (⊎_elim (λ h. in_left k (group First run l) _ h) (λ h. in_right k (group First run l) _ (in_left k row _ (same.back k h)))) (λ h. in_right k (group First run l) _ (in_right k row _ h)))
+    (λ h. ⊎_elim (λ i. inl (inl i)) (λ i. ⊎_elim (λ j. inl (inr (same.there k j))) inr (in_append k row (group Last run l) i)) (in_append k (group First run l) (row ++ group Last run l) h))
     parts in
     same_from_decides (has (writes_mask run l) k) (member k (line run l row)) (Decides-at (has (writes_mask run l) k) ((has f k || has e k) || has t k) bits whole) (member_decided k (line run l row))
 
@@ -56,18 +53,6 @@ zeros a b =
     let none : get_or (replicate 32 0) a 0 ≡ 0 = ⊎_elim (λ lt. get_or-replicate 32 a 0 0 lt) (λ ge. get_or_past (replicate 32 0) a 0 (rw (length-replicate {A = ℕ} 32 0) ge)) (cases_lt a 32) in
     ap (λ n. has n b) none ∙ has_none b
 
-any_next : (p : ℕ → Bool) (m : ℕ) → any_below p (suc m) ≡ (p m || any_below p m)
-unfolding any_below
-any_next p m = refl
-
-any_zero : (p : ℕ → Bool) → any_below p 0 ≡ false
-unfolding any_below
-any_zero p = refl
-
-any_found : (p : ℕ → Bool) (m : ℕ) → any_below p m ≡ true → (l : ℕ) × (l < m) × (p l ≡ true)
-unfolding any_below
-any_found p m h = (Decides-below_or p (λ l. p l ≡ true) (any_below p) (λ l. (λ e. e, λ e. e)) refl (λ _. refl) m).0 h
-
 module _ (run : Run) (digits : List ℕ) (right : (l : ℕ) → l < 16 → LinesUp (FreeOf run l) (row_by run l (get_or digits l 0))) where
   -- the line of a location by its digit
   abbrev laid_line : ℕ → List ℕ
@@ -76,29 +61,22 @@ module _ (run : Run) (digits : List ℕ) (right : (l : ℕ) → l < 16 → Lines
   -- a number has a line of one location only
   no_other : (m a b : ℕ) → m < 16 → member a (laid_line m) ≡ true → any_below (λ l. precedes (laid_line l) a b) m ≡ false
   no_other m a b lt here =
-      ⊎_elim
+      false_from_ne_true _
       (λ h.
-      let t = any_found (λ l. precedes (laid_line l) a b) m h in
-      let low : t.0 < 16 = omega (arith, t.1, lt) in
-      let there = line_writes run t.0 _ a (right t.0 low) (precedes_left (laid_line t.0) a b ((precedes_decided (laid_line t.0) a b).0 t.2)) in
+      let t = (below_decided laid_line a b m).0 h in
+      let there = line_writes run t.0 _ a (right t.0 (omega (arith, t.1, lt))) (precedes_left (laid_line t.0) a b t.2) in
       let write = line_writes run m _ a (right m lt) ((member_decided a (laid_line m)).0 here) in
       let same = one_location run t.0 m a there write in
-      absurd (omega (arith, t.1, same)))
-      (λ h. h)
-      (cases_Bool (any_below (λ l. precedes (laid_line l) a b) m))
+      omega (arith, t.1, same))
 
   row_step : (m a b : ℕ) (here : Bool) (before : Bool) → m < 16 → member a (laid_line m) ≡ here → before ≡ any_below (λ l. precedes (laid_line l) a b) m → cond here (precedes (laid_line m) a b) before ≡ (precedes (laid_line m) a b || any_below (λ l. precedes (laid_line l) a b) m)
-  row_step m a b true before lt e was = sym (ap (λ t. precedes (laid_line m) a b || t) (no_other m a b lt e) ∙ or_none (precedes (laid_line m) a b))
-    where
-      or_none : (t : Bool) → (t || false) ≡ t
-      or_none true = refl
-      or_none false = refl
+  row_step m a b true before lt e was = sym (ap (λ t. precedes (laid_line m) a b || t) (no_other m a b lt e) ∙ or-false (precedes (laid_line m) a b))
   row_step m a b false before lt e was = was ∙ sym (ap (λ t. t || any_below (λ l. precedes (laid_line l) a b) m) (precedes_not (laid_line m) a b e))
 
   -- the rows have what the lines have
   pub rows_right : (m a b : ℕ) → m ≤ 16 → has (get_or (rows_at run digits m) a 0) b ≡ any_below (λ l. precedes (laid_line l) a b) m
-  unfolding rows_at
-  rows_right zero a b le = zeros a b ∙ sym (any_zero (λ l. precedes (laid_line l) a b))
+  unfolding rows_at any_below
+  rows_right zero a b le = zeros a b
   rows_right (suc m) a b le =
       let lt : m < 16 = omega arith in
       let before = rows_right m a b (omega arith) in
@@ -106,7 +84,6 @@ module _ (run : Run) (digits : List ℕ) (right : (l : ℕ) → l < 16 → Lines
       (λ x h. rw (rows_length run digits m) (line_writes run m _ x (right m lt) h).stands.0)
       (λ k. writes_line run m (row_by run m (get_or digits m 0)) k (right m lt))
       ∙ row_step m a b (member a (laid_line m)) (has (get_or (rows_at run digits m) a 0) b) lt refl before
-      ∙ sym (any_next (λ l. precedes (laid_line l) a b) m)
 
   pub rows_shown : Shown (rows_at run digits 16) (order_of laid_line)
   rows_shown = record {
@@ -142,23 +119,8 @@ pub record Splitting (radix : ℕ → ℕ) (number : ℕ) (digits : List ℕ) (r
   pub digits_so : digits_of radix rest left ++ drop left digits ≡ digits_of radix number 16
   pub rest_so : excess radix rest left ≡ excess radix number 16
 
-pub splitting_start : (radix : ℕ → ℕ) (number : ℕ) (digits : List ℕ) → length digits ≡ 16 → number < 65536 → Splitting radix number digits number 16
-splitting_start radix number digits long lt = record {
-  long = long;
-  small = omega arith;
-  digits_so = ap (λ xs. digits_of radix number 16 ++ xs) (drop_all 16 digits (omega arith)) ∙ append-nil (digits_of radix number 16);
-  rest_so = refl;
-}
-
-digits_next : (radix : ℕ → ℕ) (n m : ℕ) → digits_of radix n (suc m) ≡ digits_of radix (n / radix m) m ++ (n % radix m ∷ [])
-unfolding digits_of
-digits_next radix n m = refl
-
-excess_next : (radix : ℕ → ℕ) (n m : ℕ) → excess radix n (suc m) ≡ excess radix (n / radix m) m
-unfolding excess
-excess_next radix n m = refl
-
 splitting_step : (radix : ℕ → ℕ) (number : ℕ) (digits : List ℕ) (rest j : ℕ) → j < 16 → Splitting radix number digits rest (suc j) → Splitting radix number (set digits j (rest % radix j)) (rest / radix j) j
+unfolding digits_of excess
 splitting_step radix number digits rest j lt s =
     let inside : j < length digits = omega (arith, s.long) in
     let digit : ℕ = rest % radix j in
@@ -166,8 +128,8 @@ splitting_step radix number digits rest j lt s =
     record {
       long = length-set digits j digit ∙ s.long;
       small = let le = div-le_self rest (radix j) in omega (arith, le, s.small);
-      digits_so = ap (λ xs. digits_of radix (rest / radix j) j ++ xs) tail ∙ sym (append_assoc (digits_of radix (rest / radix j) j) (digit ∷ []) (drop (suc j) digits)) ∙ ap (λ xs. xs ++ drop (suc j) digits) (sym (digits_next radix rest j)) ∙ s.digits_so;
-      rest_so = sym (excess_next radix rest j) ∙ s.rest_so;
+      digits_so = ap (λ xs. digits_of radix (rest / radix j) j ++ xs) tail ∙ sym (append_assoc (digits_of radix (rest / radix j) j) (digit ∷ []) (drop (suc j) digits)) ∙ s.digits_so;
+      rest_so = s.rest_so;
     }
 
 pub splitting_more : (radix : ℕ → ℕ) (number : ℕ) (digits : List ℕ) (rest left j r : ℕ) → Splitting radix number digits rest left → left ≡ suc j → left ≤ 16 → r ≡ capped (radix j) → Splitting radix number (set digits j (rest % r)) (rest / r) j
@@ -189,24 +151,16 @@ unfolding product
 product_pos run zero = omega arith
 product_pos run (suc m) = mul-pos (product_pos run m) (factorial_pos (length (group Free run m)))
 
-pub product_none : (run : Run) → 1 ≡ min (product (ways run) 0) 5041
-unfolding product
-product_none run = refl
-
-product_more : (run : Run) (m total w : ℕ) → total ≡ min (product (ways run) m) 5041 → w ≡ capped (ways run m) → min (total * w) 5041 ≡ min (product (ways run) (suc m)) 5041
-unfolding product
-product_more run m total w e f =
-    ap₂ (λ a b. min (a * b) 5041) e f ∙ capped_product (product (ways run) m) (ways run m) (product_pos run m) (factorial_pos (length (group Free run m)))
-
 -- one location more
 abbrev pub times : Run → ℕ → ℕ → ℕ
 times run total l = min (min (total * capped (ways run l)) 4294967295) 5041
 
 pub product_folded : (run : Run) (n : ℕ) → fold (times run) 1 (range_with_len 0 n) ≡ min (product (ways run) n) 5041
-product_folded run zero = product_none run
+unfolding product
+product_folded run zero = refl
 product_folded run (suc n) =
     let before = product_folded run n in
-    let more = product_more run n (min (product (ways run) n) 5041) (capped (ways run n)) refl refl in
+    let more = capped_product (product (ways run) n) (ways run n) (product_pos run n) (factorial_pos (length (group Free run n))) in
     ap (fold (times run) 1) (range_more n) ∙ fold-append (times run) 1 (range_with_len 0 n) (n ∷ []) ∙ ap (λ t. times run t n) before ∙ omega (arith, more)
 
 -- the count has been told

@@ -1,5 +1,5 @@
 -- The order that rows show, as pairs. Assumes nothing.
-use Rattle.std.proofs.Common.{◌≡◌, ℕ, ◌/◌, ◌%◌, ◌^◌, ◌<◌, true, List, get_or, ⊎_elim, arith}
+use Rattle.std.proofs.Common.{◌≡◌, ℕ, ◌/◌, ◌%◌, ◌^◌, ◌<◌, true, List, Decides, get_or, ⊎_elim, arith}
 use mathlib.Core.Path.{subst⁻¹}
 use Rattle.std.proofs.lemmas.Nat.Bits.{bit_at_above}
 use Rattle.std.proofs.lemmas.Bool.{cases_lt, false≢true}
@@ -22,21 +22,16 @@ pub bit_low : (x n : ℕ) → x < 2 ^ 32 → bit x n ≡ 1 → n < 32
 bit_low x n fits up =
     ⊎_elim (λ l. l) (λ ge. let none = bit_at_above x 32 n fits ge in absurd (omega (arith, none, up))) (cases_lt n 32)
 
--- where the test of a bit comes out true, the bit is up
-pub has_up : (x n : ℕ) → has x n ≡ true → bit x n ≡ 1
+-- the test of a bit decides that it is up
+has_decided : (x n : ℕ) → Decides (has x n) (bit x n ≡ 1)
 unfolding has
-has_up x n h = (Decides-eqb (x / 2 ^ n % 2) 1).0 h
-
--- and the other way
-pub up_has : (x n : ℕ) → bit x n ≡ 1 → has x n ≡ true
-unfolding has
-up_has x n h = (Decides-eqb (x / 2 ^ n % 2) 1).1 h
+has_decided x n = Decides-eqb (x / 2 ^ n % 2) 1
 
 -- rows of 32 bits have the pairs of the order that they show
 pub shown_pairs : (rows : List ℕ) (co : Order) → ((a : ℕ) → get_or rows a 0 < 2 ^ 32) → Shown rows co → SamePairs (Related rows) (ordered co)
 shown_pairs rows co fits s a b = (
-  λ r. (s.bits a b).1 (r.within, up_has (get_or rows a 0) b r.there.raised),
-  λ h. let t = (s.bits a b).0 h in let up = has_up (get_or rows a 0) b t.1 in record { within = t.0; there = record { within = bit_low (get_or rows a 0) b (fits a) up; raised = up } },
+  λ r. (s.bits a b).1 (r.within, (has_decided (get_or rows a 0) b).1 r.there.raised),
+  λ h. let t = (s.bits a b).0 h in let up = (has_decided (get_or rows a 0) b).0 t.1 in record { within = t.0; there = record { within = bit_low (get_or rows a 0) b (fits a) up; raised = up } },
 )
 
 -- no pair is in the order with no pair

@@ -1,9 +1,12 @@
+use Rattle.std.proofs.Common.{refl}
 use Rattle.run.specs.Tests.{table_run}
-use Rattle.coherence.proofs.Laying.{rows_none, rows_more}
+use Rattle.coherence.specs.Laying.{rows_at}
+use Rattle.coherence.proofs.Laying.{rows_more}
 use Rattle.coherence.proofs.line.lay_lines.Goals as goal
 
 pub loop-location-init : goal.loop-location-init
-loop-location-init c = rows_none (table_run c.args.events.now.events) c.args.digits.now
+unfolding rows_at
+loop-location-init c = refl
 
 pub loop-location-preserved : goal.loop-location-preserved
 loop-location-preserved c =
