@@ -105,9 +105,6 @@ final_alike e = record { kind = refl; thread = refl; step = refl; location = ref
 tied_sources : (run : Run) (r w : ℕ) (t : Tieable run r w) → Orderly run → Kept Sources (put run r (Some (sourced w t.read)))
 tied_sources run r w t old n e s v from = go (came run r (sourced w t.read) n e s)
   where
-    after : Run
-    after = put run r (Some (sourced w t.read))
-
     m : Marked run (put run r (Some (sourced w t.read)))
     m = marks run r t.read (sourced w t.read) t.read_stands (sourced_alike w t.read)
 
@@ -170,9 +167,6 @@ settled_settlings : (run : Run) (k : ℕ) (t : Settleable run k) → Orderly run
     (n : ℕ) (e : Event) → Stands (put run k (Some (final t.write))) n e → e.settled ≡ true → Write e × OnlySettled (put run k (Some (final t.write))) n e
 settled_settlings run k t old n e s settled = go (came run k (final t.write) n e s)
   where
-    After : Run
-    After = put run k (Some (final t.write))
-
     go : ((n ≡ k) × (e ≡ final t.write)) ⊎ ((n ≡ k → ⊥) × Stands run n e) → Write e × OnlySettled (put run k (Some (final t.write))) n e
     go (inl h) =
         let a : Alike e t.write = subst (λ u. Alike u t.write) (sym h.1) (final_alike t.write) in (

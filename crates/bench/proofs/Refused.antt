@@ -1,5 +1,5 @@
 -- The refusal that the code finds is the first listed one that applies, and where it finds none the action is a step. Assumes nothing.
-use Rattle.std.proofs.Common.{◌≡◌, ℕ, ◌<◌, ◌≤◌, Bool, true, false, cond, not, ◌&&◌, ◌||◌, eqb, ltb, ◌⊎◌, is_some, Some, None, Ok, Err, Decides, Option, sym, refl, ap, ◌∙◌, subst, inl, inr, ⊎_elim, arith}
+use Rattle.std.proofs.Common.{◌≡◌, ℕ, ◌<◌, ◌≤◌, Bool, true, false, cond, not, ◌&&◌, ◌||◌, eqb, ltb, ◌⊎◌, is_some, Some, None, Ok, Decides, Option, sym, refl, ap, ◌∙◌, subst, inl, inr, ⊎_elim, arith}
 use Rattle.std.proofs.lemmas.Bool.Decides.{Decides-and, Decides-or, Decides-not, Decides-like, Decides-at, Decides-eqb, Decides-ltb, not_from_Decides}
 use Rattle.std.proofs.lemmas.Bool.{cases_lt, cases_eq, lt-ltb, le-ltb, false≢true, not-false, or_parts}
 use Rattle.run.specs.declared.event.Event.{Event}
@@ -199,25 +199,21 @@ pub answer_none : (o : Option BenchFault) → answer o ≡ Ok tt → o ≡ None
 answer_none None h = refl
 answer_none (Some f) h = absurd (cc h)
 
-pub answer_some : (o : Option BenchFault) (f : BenchFault) → answer o ≡ Err f → o ≡ Some f
-answer_some None f h = absurd (cc h)
-answer_some (Some g) f h = cc h
-
 -- where the code finds no refusal, the tests came out so
 enter_open : (a b c : Bool) → cond a (Some BadNumber) (cond b (Some OutOfRange) (cond c (Some Clash) None)) ≡ None → (a ≡ false) × (b ≡ false) × (c ≡ false)
-enter_open true b c h = absurd (let z : ◌≡◌ {A = ℕ} 0 1 = cc in omega arith)
-enter_open false true c h = absurd (let z : ◌≡◌ {A = ℕ} 0 1 = cc in omega arith)
-enter_open false false true h = absurd (let z : ◌≡◌ {A = ℕ} 0 1 = cc in omega arith)
+enter_open true b c h = absurd (cc)
+enter_open false true c h = absurd (cc)
+enter_open false false true h = absurd (cc)
 enter_open false false false h = (refl, refl, refl)
 
 tie_open : (a b : Bool) → cond a (cond b None (Some Mismatch)) (Some NoPair) ≡ None → (a ≡ true) × (b ≡ true)
-tie_open false b h = absurd (let z : ◌≡◌ {A = ℕ} 0 1 = cc in omega arith)
-tie_open true false h = absurd (let z : ◌≡◌ {A = ℕ} 0 1 = cc in omega arith)
+tie_open false b h = absurd (cc)
+tie_open true false h = absurd (cc)
 tie_open true true h = (refl, refl)
 
 settle_open : (a b : Bool) → cond a (cond b (Some OtherSettled) None) (Some NoWrite) ≡ None → (a ≡ true) × (b ≡ false)
-settle_open false b h = absurd (let z : ◌≡◌ {A = ℕ} 0 1 = cc in omega arith)
-settle_open true true h = absurd (let z : ◌≡◌ {A = ℕ} 0 1 = cc in omega arith)
+settle_open false b h = absurd (cc)
+settle_open true true h = absurd (cc)
 settle_open true false h = (refl, refl)
 
 -- where the code finds no refusal, the action is a step
@@ -266,7 +262,7 @@ pub open_answers : (run : Run) (a : Action) → Open run a → Answers run a (Ok
 open_answers run (Enter x) good =
     λ g.
     below_enter run x 16
-    (λ _ h. ⊎_elim (λ l. omega (arith, l, good.below)) (λ s. let clash : Some s.0 ≡ None = sym s.1.1 ∙ good.free in let z : ◌≡◌ {A = ℕ} 0 1 = cc in omega arith) h)
+    (λ _ h. ⊎_elim (λ l. omega (arith, l, good.below)) (λ s. let clash : Some s.0 ≡ None = sym s.1.1 ∙ good.free in cc) h)
     (λ _ h. h good.ranged)
     (λ _ h. h ((entry_steps run x.number (fresh x)).0 good.steps, (entry_initials run x.number (fresh x)).0 good.initials))
     g (numbered g)

@@ -1,5 +1,5 @@
 -- A step that no refusal forbids keeps an orderly run orderly. Assumes nothing.
-use Rattle.std.proofs.Common.{◌≡◌, ℕ, ◌<◌, true, false, ◌⊎◌, Some, None, Option, sym, refl, ap, ◌∙◌, subst, inl, inr, ⊎_elim, arith}
+use Rattle.std.proofs.Common.{◌≡◌, ℕ, ◌<◌, true, false, ◌⊎◌, Some, None, Option, sym, refl, ap, ◌∙◌, subst, inl, inr, ⊎_elim}
 use Rattle.std.proofs.lemmas.Bool.{cases_eq, eq-eqb, ne_eqb}
 use Rattle.run.specs.declared.event.Event.{Event}
 use Rattle.bench.specs.declared.action.Entry.{Entry}
@@ -76,7 +76,7 @@ After run x = put run x.number (Some (fresh x))
 
 -- where nothing stood, an event of before stands elsewhere
 elsewhere : (run : Run) (k n : ℕ) (e : Event) → run k ≡ None → Stands run n e → n ≡ k → ⊥
-elsewhere run k n e free s h = let clash : Some e ≡ None = sym s.1 ∙ ap run h ∙ free in let z : ◌≡◌ {A = ℕ} 0 1 = cc in omega arith
+elsewhere run k n e free s h = let clash : Some e ≡ None = sym s.1 ∙ ap run h ∙ free in cc
 
 -- a relation between events that a rule forbids, seen from both sides
 entered_apart : (run : Run) (x : Entry) (P : Event → Type 0) (R : Event → Event → Type 0) →
@@ -126,14 +126,14 @@ entered_sources : (run : Run) (x : Entry) → Enterable run x → Orderly run �
 entered_sources run x good old n e s w from = go (came run x.number (fresh x) n e s)
   where
     go : ((n ≡ x.number) × (e ≡ fresh x)) ⊎ ((n ≡ x.number → ⊥) × Stands run n e) → Read e × Supplies (After run x) w e
-    go (inl h) = let clash : None ≡ Some w = sym (ap (λ (v : Event). v.source) h.1) ∙ from in let z : ◌≡◌ {A = ℕ} 0 1 = cc in absurd (omega arith)
+    go (inl h) = let clash : None ≡ Some w = sym (ap (λ (v : Event). v.source) h.1) ∙ from in absurd (cc)
     go (inr h) = let was = old.sources n e h.1 w from in (was.0, entered_supplies run x good w e was.1)
 
 entered_settlings : (run : Run) (x : Entry) → Enterable run x → Orderly run → (n : ℕ) (e : Event) → Stands (After run x) n e → e.settled ≡ true → Write e × OnlySettled (After run x) n e
 entered_settlings run x good old n e s settled = go (came run x.number (fresh x) n e s)
   where
     new : (v : Event) → v ≡ fresh x → v.settled ≡ true → ⊥
-    new v h t = let clash : false ≡ true = sym (ap (λ (u : Event). u.settled) h) ∙ t in let z : ◌≡◌ {A = ℕ} 0 1 = cc in omega arith
+    new v h t = let clash : false ≡ true = sym (ap (λ (u : Event). u.settled) h) ∙ t in cc
 
     go : ((n ≡ x.number) × (e ≡ fresh x)) ⊎ ((n ≡ x.number → ⊥) × Stands run n e) → Write e × OnlySettled (After run x) n e
     go (inl h) = absurd (new e h.1 settled)
