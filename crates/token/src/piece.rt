@@ -1,6 +1,6 @@
 //! Pieces: what stands at the beginning of the rest of a text.
-ghost use Rattle.std.specs.Prelude.{◌≡◌, ◌&&◌, not, take, position, Some, ◌==◌, slice_index};
-ghost use Rattle.token.specs.Items.{goes_on, run, quote_from, end_from, word_of, titled, commented, when, single, opened, signed, item_of};
+ghost use Rattle.std.specs.Prelude.{◌≡◌, ◌&&◌, not, map, take, position, Some, ◌==◌, slice_index};
+ghost use Rattle.token.specs.Items.{goes_on, run, quote_from, end_from, beside, word_of, titled, commented, when, single, opened, signed, item_of};
 ghost use Rattle.token.specs.Lexing.{token};
 ghost use Rattle.token.specs.Tokens.{no_events, inverse};
 ghost use Rattle.token.specs.Views.{view, gap, word, token_view, piece_view, parted};
@@ -63,30 +63,33 @@ fn comment_end(text: &[u8]) -> Option<usize>
     text.windows(2).position(|pair| pair == b"*)".as_slice())
 }
 
+/// The reserved words with their tokens.
+const RESERVED: [(&[u8], Token<'static>); 8] = [
+    (b"let", Token::Let),
+    (b"rec", Token::Rec),
+    (b"and", Token::And),
+    (b"acyclic", Token::Acyclic),
+    (b"irreflexive", Token::Irreflexive),
+    (b"empty", Token::Empty),
+    (b"flag", Token::Flag),
+    (b"as", Token::As),
+];
+
+/// The token beside some bytes in a table, or their name.
+fn beside<'a>(table: &[(&[u8], Token<'a>)], bytes: &'a [u8]) -> Token<'a>
+    ensures { view result ≡ beside bytes.now (map (λ e. (e.0.now, view e.1)) table.entry.now) }
+{
+    table
+        .iter()
+        .find(|entry| bytes == entry.0)
+        .map_or(Token::Name(bytes), |entry| entry.1)
+}
+
 /// The reserved word that is so written, or the name.
 fn word_of<'a>(bytes: &'a [u8]) -> Token<'a>
     ensures { view result ≡ word_of bytes.now }
 {
-    // A `match` on byte strings was tried: its default arm, `returns-in_default`, has 41 cases, and `search` leaves it.
-    if bytes == b"let".as_slice() {
-        Token::Let
-    } else if bytes == b"rec".as_slice() {
-        Token::Rec
-    } else if bytes == b"and".as_slice() {
-        Token::And
-    } else if bytes == b"acyclic".as_slice() {
-        Token::Acyclic
-    } else if bytes == b"irreflexive".as_slice() {
-        Token::Irreflexive
-    } else if bytes == b"empty".as_slice() {
-        Token::Empty
-    } else if bytes == b"flag".as_slice() {
-        Token::Flag
-    } else if bytes == b"as".as_slice() {
-        Token::As
-    } else {
-        Token::Name(bytes)
-    }
+    beside(&RESERVED, bytes)
 }
 
 /// A word: a name or a reserved word.
