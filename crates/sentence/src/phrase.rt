@@ -13,6 +13,8 @@ use super::role::*;
 use super::sign::*;
 use super::statement::*;
 
+// Here and in the parser's `mark`, `claim` and `denial` the flag is a `bool`, as in the grammar's `of_check flag negated word`: a
+// struct with the negation, or a mark whose label is to come, would be taken apart again in each clause.
 /// The mark of a check with its label at a place.
 fn labelled(flag: bool, at: usize) -> Mark
     ensures { mark_of result ≡ marked flag }
@@ -135,9 +137,7 @@ impl<'a> Parser<'a> {
     fn denial(self, at: usize, flag: bool) -> Result<Placed<Statement>, SentenceFault>
         ensures { Stated (λ p. tilde_seen p flag) self.entry.sorts.now at result }
     {
-        let Some(word) = self.word_at(at) else {
-            return Err(SentenceFault::Place(at));
-        };
+        let word = self.word_at(at).ok_or(SentenceFault::Place(at))?;
         self.claim(at + 1, flag, true, word)
     }
 
@@ -148,9 +148,7 @@ impl<'a> Parser<'a> {
         if self.stands(at, Role::Complements) {
             return self.denial(at + 1, true);
         }
-        let Some(word) = self.word_at(at) else {
-            return Err(SentenceFault::Place(at));
-        };
+        let word = self.word_at(at).ok_or(SentenceFault::Place(at))?;
         self.claim(at + 1, true, false, word)
     }
 
@@ -162,9 +160,7 @@ impl<'a> Parser<'a> {
         if self.stands(at, Role::Complements) {
             return self.denial(at + 1, false);
         }
-        let Some(speech) = self.speech_at(at) else {
-            return Err(SentenceFault::Place(at));
-        };
+        let speech = self.speech_at(at).ok_or(SentenceFault::Place(at))?;
         match speech {
             Speech::Lets => self.binds(at + 1),
             Speech::Flags => self.warning(at + 1),
