@@ -46,13 +46,7 @@ impl<'a> Parser<'a> {
         let equals = self.behind(at, Role::Starts(Start::Leaf(Leaf::Name)))?;
         let start = self.behind(equals, Role::Speaks(Speech::Equals))?;
         let piece = self.ladder(start, 1)?;
-        Ok(Placed {
-            item: Binding {
-                name: at,
-                tree: piece.item,
-            },
-            next: piece.next,
-        })
+        Ok(piece.map(|tree| Binding { name: at, tree }))
     }
 
     /// The bindings of a group, behind `let rec`.
@@ -82,10 +76,7 @@ impl<'a> Parser<'a> {
             return self.group(at + 1);
         }
         let bound = self.binding(at)?;
-        Ok(Placed {
-            item: Statement::Let(bound.item),
-            next: bound.next,
-        })
+        Ok(bound.map(|binding| Statement::Let(binding)))
     }
 
     /// The mark of a check, behind its expression: its label, which a flag needs.

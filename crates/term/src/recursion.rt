@@ -40,7 +40,7 @@ fn denied(group: Span, under: bool, term: &Term) -> Option<usize>
 {
     match term {
         Term::Given(_) | Term::Unbound(_) => None,
-        Term::Bound(place, number) => { (under && group.has(*number)).then_some(*place) }
+        Term::Bound(place, number) => (under && group.has(*number)).then_some(*place),
         Term::Test(_, inside) | Term::Ended(_, _, inside) => denied(group, under, inside),
         Term::Complement(inside) => denied(group, true, inside),
         Term::Joined(_, sign, left, right) => lower(
