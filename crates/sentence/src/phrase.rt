@@ -16,7 +16,7 @@ use super::statement::*;
 // Here and in the parser's `mark`, `claim` and `denial` the flag is a `bool`, as in the grammar's `of_check flag negated word`: a
 // struct with the negation, or a mark whose label is to come, would be taken apart again in each clause.
 /// The mark of a check with its label at a place.
-fn labelled(flag: bool, at: usize) -> Mark
+fn labelled(flag: bool, at: usize) -> Mark<usize>
     ensures { mark_of result ≡ marked flag }
 {
     if flag {
@@ -80,7 +80,7 @@ impl<'a> Parser<'a> {
     }
 
     /// The mark of a check, behind its expression: its label, which a flag needs.
-    fn mark(self, at: usize, flag: bool) -> Result<Placed<Mark>, SentenceFault>
+    fn mark(self, at: usize, flag: bool) -> Result<Placed<Mark<usize>>, SentenceFault>
         requires within { at ≤ length self.sorts.now }
         requires halts { Halts self.sorts.now 1 at }
         ensures { Marks self.entry.sorts.now at flag result }
