@@ -47,14 +47,11 @@ impl<'a> Scope<'a> {
         let placed = self.resolve(at + 2, tree)?;
         let name = self.name_at(at);
         let taken = is_given(name) || self.is_among(before, name);
-        Ok(Placed {
-            item: Binding {
-                token: at,
-                taken,
-                term: placed.item,
-            },
-            next: placed.next,
-        })
+        Ok(placed.map(|term| Binding {
+            token: at,
+            taken,
+            term,
+        }))
     }
 
     /// The bindings of a group, the first name at a token; all its names are bound.

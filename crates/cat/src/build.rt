@@ -6,6 +6,8 @@ use sentence::sign::{Infix, Post};
 use std::alloc::{AllocError, Global};
 use term::Term;
 
+// `test`, `complement`, `ended` and `joined` differ in their case of `Term`; a function over the case would need its clause for
+// each, and the bodies are as short as its calls.
 /// Identity on a set, its `[` at a token.
 pub(crate) fn test(heap: Global, token: usize, term: Term) -> Result<Term, AllocError>
     ensures { IfOk result (λ t. term_of t ≡ test token (term_of term)) }

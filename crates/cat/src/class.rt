@@ -68,7 +68,7 @@ impl Tally {
             Class::Name => next == Class::Equals && self.equals >= MOST_NAMES,
             Class::Word => self.words >= MOST_CHECKS,
             Class::Opens => self.opened.saturating_sub(self.closed) >= MOST_OPEN,
-            Class::Equals | Class::Closes | Class::Other => false,
+            _ => false,
         }
     }
 }
@@ -94,6 +94,7 @@ fn class_at(sorts: &[Sort], at: usize) -> Class
     sorts.get(at).map_or(Class::Other, |sort| class_of(*sort))
 }
 
+// The token is a value, and no fault yet: what reads the text refuses it at its place.
 /// The first token past a limit: the 65th bound name, the 17th check word, or a bracket that opens while 16 are open.
 pub(crate) fn over_limit(sorts: &[Sort]) -> Option<usize>
     ensures { Limited sorts.now result }

@@ -63,35 +63,27 @@ impl<'a> Scope<'a> {
             Expr::Inside(bracket, inner) => {
                 let inside = self.resolve(at + 1, inner)?;
                 let item = bracketed(self.heap, *bracket, at, inside.item)?;
-                Ok(Placed {
-                    item,
-                    next: inside.next + 1,
-                })
+                let next = inside.next + 1;
+                Ok(Placed { item, next })
             }
             Expr::Tilde(inner) => {
                 let inside = self.resolve(at + 1, inner)?;
                 let item = complement(self.heap, inside.item)?;
-                Ok(Placed {
-                    item,
-                    next: inside.next,
-                })
+                let next = inside.next;
+                Ok(Placed { item, next })
             }
             Expr::Ended(inner, sign) => {
                 let inside = self.resolve(at, inner)?;
                 let item = ended(self.heap, inside.next, *sign, inside.item)?;
-                Ok(Placed {
-                    item,
-                    next: inside.next + 1,
-                })
+                let next = inside.next + 1;
+                Ok(Placed { item, next })
             }
             Expr::Joined(sign, left, right) => {
                 let first = self.resolve(at, left)?;
                 let second = self.resolve(first.next + 1, right)?;
                 let item = joined(self.heap, first.next, *sign, first.item, second.item)?;
-                Ok(Placed {
-                    item,
-                    next: second.next,
-                })
+                let next = second.next;
+                Ok(Placed { item, next })
             }
         }
     }

@@ -12,14 +12,14 @@ use std::alloc::AllocError;
 use term::statement::Mark;
 
 /// How many tokens stand before the word of a check.
-pub(crate) fn before_word(mark: Said, negated: bool) -> usize
+pub(crate) fn before_word(mark: Said<usize>, negated: bool) -> usize
     ensures { result ≡ before_word (said_mark mark) negated }
 {
     usize::from(matches!(mark, Said::Flagged(_))) + usize::from(negated)
 }
 
 /// How many tokens stand behind the expression of a check.
-pub(crate) fn behind_term(mark: Said) -> usize
+pub(crate) fn behind_term(mark: Said<usize>) -> usize
     ensures { result ≡ length (mark_back (said_mark mark)) }
 {
     match mark {
@@ -30,7 +30,7 @@ pub(crate) fn behind_term(mark: Said) -> usize
 
 impl<'a> Scope<'a> {
     /// The mark of a check, with its label at a token.
-    pub(crate) fn labelled(&self, token: usize, mark: Said) -> Result<Mark, AllocError>
+    pub(crate) fn labelled(&self, token: usize, mark: Said<usize>) -> Result<Mark, AllocError>
         ensures { IfOk result (λ m. mark_of m ≡ mark_at (tokens_of self.now) token (said_mark mark)) }
     {
         let label = self.name_at(token);

@@ -27,10 +27,7 @@ impl<'a> Scope<'a> {
     {
         let placed = self.binding(&[], at + 1, tree)?;
         self.bound.push(at + 1)?;
-        Ok(Placed {
-            item: Statement::Let(placed.item),
-            next: placed.next,
-        })
+        Ok(placed.map(|binding| Statement::Let(binding)))
     }
 
     /// A let rec group that begins at a token; its names are bound in it and behind it.
@@ -46,10 +43,7 @@ impl<'a> Scope<'a> {
     {
         bind_group(&mut self.bound, at + 2, first, more)?;
         let placed = self.group(at + 2, first, more)?;
-        Ok(Placed {
-            item: Statement::Group(placed.item),
-            next: placed.next,
-        })
+        Ok(placed.map(|bindings| Statement::Group(bindings)))
     }
 
     /// A check that begins at a token.

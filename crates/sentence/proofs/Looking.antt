@@ -1,5 +1,6 @@
 -- The sort at a place is the first of what is left there. Assumes nothing.
-use Rattle.std.proofs.Common.{◌≡◌, ℕ, zero, suc, ◌≤◌, Bool, true, false, List, [], ◌∷◌, length, drop, None, Ok, Err, Result, sym, refl, ap, subst, drop_of_length-le}
+use Rattle.std.proofs.Common.{◌≡◌, ℕ, zero, suc, ◌≤◌, Bool, true, false, List, [], ◌∷◌, length, drop, Some, None, Ok, Err, Option, Result, sym, refl, ap, subst, drop_of_length-le}
+use Rattle.std.specs.Option.{ok_or}
 use Rattle.std.specs.Prelude.{◌↔◌, IsTrue, IsErr, IsErrAnd}
 use Rattle.sentence.specs.declared.fault.SentenceFault.{SentenceFault}
 use Rattle.sentence.specs.declared.sort.Sort.{Sort}
@@ -22,6 +23,11 @@ behind_drop (suc n) (s ∷ ts) = behind_drop n ts
 -- a test that failed
 pub not_so : {P : Type 0} (b : Bool) → (IsTrue b ↔ P) → b ≡ false → P → ⊥
 not_so b e h p = let t : b ≡ true = e.1 p in cc
+
+-- where nothing is found, the place is at fault
+pub lacked : {X : Type 0} (P : SentenceFault → Type 0) {f g : SentenceFault} {o : Option X} → Err f ≡ ok_or o g → o ≡ None → P g → P f
+lacked P {f} {g} {o = Some x} e n h = let no : ⊥ = cc in absurd no
+lacked P {f} {g} {o = None} e n h = subst P (let same : g ≡ f = cc in same) h
 
 -- a fault that `?` hands on
 pub handed : {T : Type 0} (P : Result T SentenceFault → Type 0) (r : Result T SentenceFault) (f : SentenceFault) → IsErr r × IsErrAnd r (λ y. y ≡ f) → P (Err f) → P r

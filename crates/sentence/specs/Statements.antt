@@ -15,7 +15,7 @@ use Rattle.sentence.specs.Machine.{Binding, of_binding, of_check, State, ready, 
 use Rattle.sentence.specs.Parsing.{Halts}
 use Rattle.sentence.specs.Exprs.{tree_of}
 
-abbrev pub mark_of : mark.Mark → Mark
+abbrev pub mark_of : {L : Type 0} → mark.Mark L → Mark
 mark_of Plain = plain
 mark_of (Labelled k) = labelled
 mark_of (Flagged k) = flagged
@@ -76,6 +76,6 @@ abbrev pub Unmarked : List Sort → ℕ → Bool → SentenceFault → Type 0
 Unmarked ts at f Memory = Unit {0}
 Unmarked ts at f (Place k) = (p : Sentence) (n : Bool) (w : Word) (t : Tree) → outcome (after p (of_check f n w) [] t) at (drop at ts) ≡ Err k
 
-abbrev pub Marks : List Sort → ℕ → Bool → Result (Placed mark.Mark) SentenceFault → Type 0
+abbrev pub Marks : List Sort → ℕ → Bool → Result (Placed (mark.Mark ℕ)) SentenceFault → Type 0
 Marks ts at f (Ok r) = GoesMarked ts at f (mark_of r.item) r.next
 Marks ts at f (Err e) = Unmarked ts at f e

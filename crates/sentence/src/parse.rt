@@ -59,7 +59,7 @@ impl<'a> Parser<'a> {
         let first = self.atom(at)?;
         let mut tree = first.item;
         let mut next = first.next;
-        // Each sign may want for memory, so no chain goes over them.
+        // A loop that counts, and no `try_fold`: nothing iterates over the signs, for each is found by what stands behind it.
         while let Some(sign) = self.post_at(next) {
             tree = ended(self.heap, tree, sign)?;
             next += 1;

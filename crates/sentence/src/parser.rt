@@ -7,9 +7,9 @@ use super::sign::*;
 use super::sort::Sort;
 use std::alloc::Global;
 
-/// The sorts that are read, and the heap that what they say is built on.
 // The place is no field: each clause speaks of the place before and the place behind, and a method of `&mut self` would have
 // to say besides that the sorts are the same, `ensures same { IfOk result (λ _. self.new.sorts ≡ self.old.sorts) }`.
+/// The sorts that are read, and the heap that what they say is built on.
 #[derive(Clone, Copy)]
 pub(crate) struct Parser<'a> {
     pub(crate) heap: Global,

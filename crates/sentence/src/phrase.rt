@@ -13,8 +13,10 @@ use super::role::*;
 use super::sign::*;
 use super::statement::*;
 
+// Here and in the parser's `mark`, `claim` and `denial` the flag is a `bool`, as in the grammar's `of_check flag negated word`: a
+// struct with the negation, or a mark whose label is to come, would be taken apart again in each clause.
 /// The mark of a check with its label at a place.
-fn labelled(flag: bool, at: usize) -> Mark
+fn labelled(flag: bool, at: usize) -> Mark<usize>
     ensures { mark_of result ≡ marked flag }
 {
     if flag {
@@ -44,13 +46,7 @@ impl<'a> Parser<'a> {
         let equals = self.behind(at, Role::Starts(Start::Leaf(Leaf::Name)))?;
         let start = self.behind(equals, Role::Speaks(Speech::Equals))?;
         let piece = self.ladder(start, 1)?;
-        Ok(Placed {
-            item: Binding {
-                name: at,
-                tree: piece.item,
-            },
-            next: piece.next,
-        })
+        Ok(piece.map(|tree| Binding { name: at, tree }))
     }
 
     /// The bindings of a group, behind `let rec`.
@@ -80,14 +76,11 @@ impl<'a> Parser<'a> {
             return self.group(at + 1);
         }
         let bound = self.binding(at)?;
-        Ok(Placed {
-            item: Statement::Let(bound.item),
-            next: bound.next,
-        })
+        Ok(bound.map(|binding| Statement::Let(binding)))
     }
 
     /// The mark of a check, behind its expression: its label, which a flag needs.
-    fn mark(self, at: usize, flag: bool) -> Result<Placed<Mark>, SentenceFault>
+    fn mark(self, at: usize, flag: bool) -> Result<Placed<Mark<usize>>, SentenceFault>
         requires within { at ≤ length self.sorts.now }
         requires halts { Halts self.sorts.now 1 at }
         ensures { Marks self.entry.sorts.now at flag result }
@@ -135,9 +128,7 @@ impl<'a> Parser<'a> {
     fn denial(self, at: usize, flag: bool) -> Result<Placed<Statement>, SentenceFault>
         ensures { Stated (λ p. tilde_seen p flag) self.entry.sorts.now at result }
     {
-        let Some(word) = self.word_at(at) else {
-            return Err(SentenceFault::Place(at));
-        };
+        let word = self.word_at(at).ok_or(SentenceFault::Place(at))?;
         self.claim(at + 1, flag, true, word)
     }
 
@@ -148,9 +139,7 @@ impl<'a> Parser<'a> {
         if self.stands(at, Role::Complements) {
             return self.denial(at + 1, true);
         }
-        let Some(word) = self.word_at(at) else {
-            return Err(SentenceFault::Place(at));
-        };
+        let word = self.word_at(at).ok_or(SentenceFault::Place(at))?;
         self.claim(at + 1, true, false, word)
     }
 
@@ -162,9 +151,7 @@ impl<'a> Parser<'a> {
         if self.stands(at, Role::Complements) {
             return self.denial(at + 1, false);
         }
-        let Some(speech) = self.speech_at(at) else {
-            return Err(SentenceFault::Place(at));
-        };
+        let speech = self.speech_at(at).ok_or(SentenceFault::Place(at))?;
         match speech {
             Speech::Lets => self.binds(at + 1),
             Speech::Flags => self.warning(at + 1),

@@ -9,18 +9,18 @@ pub struct Binding {
     pub tree: Expr,
 }
 
-/// A check has neither flag nor label, a label at a place, or a flag and a label at a place.
-#[derive(Clone, Copy, PartialEq, Eq, Debug)]
-pub enum Mark {
+/// A check has neither flag nor label, a label, or a flag and a label.
+#[derive(Clone, Copy, Drop, PartialEq, Eq, Debug)]
+pub enum Mark<L> {
     Plain,
-    Labelled(usize),
-    Flagged(usize),
+    Labelled(L),
+    Flagged(L),
 }
 
-/// A check.
+/// A check; its mark has the place of its label.
 #[derive(Drop)]
 pub struct Check {
-    pub mark: Mark,
+    pub mark: Mark<usize>,
     pub negated: bool,
     pub word: Word,
     pub tree: Expr,

@@ -18,8 +18,8 @@ pub enum Expr {
     Joined(Infix, Box<Expr>, Box<Expr>),
 }
 
-// This and the two below differ in their case of `Expr` alone; a function over the case would need its clause for each, and the
-// bodies are as short as its calls: `Ok(Expr::Tilde(Box::new(heap, e)?))`.
+// `bracketed`, `complement`, `ended` and `joined` differ in their case of `Expr`; a function over the case would need its clause
+// for each, and the bodies are as short as its calls: `Ok(Expr::Tilde(Box::new(heap, e)?))`.
 /// An expression in brackets.
 pub(crate) fn bracketed(heap: Global, bracket: Bracket, e: Expr) -> Result<Expr, SentenceFault>
     ensures made { Made result (inside bracket (tree_of e)) }

@@ -1,10 +1,11 @@
 -- Statements whose names are resolved. Assumes nothing.
-use Rattle.std.specs.Prelude.{ℕ, Bool, List, [], ◌∷◌, map, vec_items}
+use Rattle.std.specs.Prelude.{ℕ, Bool, List, [], ◌∷◌, map, vec_items, Vec}
+use Rattle.std.specs.declared.alloc.Global.{Global}
 pub use Rattle.sentence.specs.declared.sign.Word.{Word}
 pub use Rattle.sentence.specs.declared.sign.Word.TheVariants.{Acyclic as acyclic, Irreflexive as irreflexive, Empty as empty}
 use Rattle.term.specs.declared.statement.Binding as program_binding
-use Rattle.term.specs.declared.statement.Mark as program_mark
-use Rattle.term.specs.declared.statement.Mark.TheVariants.{Plain, Labelled, Flagged}
+use Rattle.sentence.specs.declared.statement.Mark as program_mark
+use Rattle.sentence.specs.declared.statement.Mark.TheVariants.{Plain, Labelled, Flagged}
 use Rattle.term.specs.declared.statement.Check as program_check
 use Rattle.term.specs.declared.statement.Statement as program
 use Rattle.term.specs.declared.statement.Statement.TheVariants.{Let, Group, Check}
@@ -40,7 +41,7 @@ pub data Statement : Type 0 where
 abbrev pub binding_of : program_binding.Binding → Binding
 binding_of b = record { token = b.token; taken = b.taken; term = term_of b.term }
 
-abbrev pub mark_of : program_mark.Mark → Mark
+abbrev pub mark_of : program_mark.Mark (Vec ℕ Global) → Mark
 mark_of Plain = plain
 mark_of (Labelled label) = labelled (vec_items label)
 mark_of (Flagged label) = flagged (vec_items label)

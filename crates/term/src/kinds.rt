@@ -6,7 +6,7 @@ ghost use Rattle.term.specs.Statements.{binding_of, claim_of, statement_of, stat
 ghost use Rattle.term.specs.Kinds.{relation, torn, as_set, as_relation, fits, made as made_by, behind, kind, kind_faults, binding_kinds, group_kinds, claim_kinds, known_after, statement_kinds, all_kinds};
 
 use super::kind::Kind;
-use super::least::{fault_if, lower};
+use super::least::lower;
 use super::rules::{as_relation, as_set, behind, fits, given_kind, made, takes};
 use super::statement::{Binding, Check, Statement};
 use super::term::Term;
@@ -82,10 +82,10 @@ fn kind_at(known: &[Kind], number: usize) -> Kind
 fn unless(test: bool, place: usize, inside: Option<usize>) -> Option<usize>
     ensures { result ≡ lower (least (fault_if (not test) place)) inside }
 {
-    lower(fault_if(!test, place), inside)
+    lower((!test).then_some(place), inside)
 }
 
-/// The kind of a term, and its first sign at fault, in one pass. The kinds of the bindings before it are known.
+/// The kind of a term, and its first sign at fault, in one walk. The kinds of the bindings before it are known.
 fn examine(known: &[Kind], term: &Term) -> Kinded
     ensures kind { result.kind ≡ kind known.now (term_of term.now) }
     ensures fault { result.fault ≡ least (kind_faults known.now (term_of term.now)) }

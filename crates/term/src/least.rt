@@ -1,7 +1,9 @@
 //! The lowest of some places.
 ghost use Rattle.std.specs.Prelude.{◌≡◌};
-ghost use Rattle.term.specs.Least.{least, lower, fault_if};
+ghost use Rattle.term.specs.Least.{lower};
 
+// A place at fault is an Option in this crate and no error: all parts of a text are looked at, and the lowest place of all is taken.
+// Which fault it is says only who refuses it.
 /// The lower of two places, where there is one.
 pub(crate) fn lower(a: Option<usize>, b: Option<usize>) -> Option<usize>
     ensures { result ≡ lower a b }
@@ -10,11 +12,4 @@ pub(crate) fn lower(a: Option<usize>, b: Option<usize>) -> Option<usize>
         (Some(j), Some(k)) => Some(j.min(k)),
         _ => a.or(b),
     }
-}
-
-/// The place if the test holds.
-pub(crate) fn fault_if(test: bool, place: usize) -> Option<usize>
-    ensures { result ≡ least (fault_if test place) }
-{
-    test.then_some(place)
 }

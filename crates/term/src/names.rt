@@ -5,7 +5,7 @@ ghost use Rattle.term.specs.Terms.{term_of};
 ghost use Rattle.term.specs.Statements.{binding_of, statement_of, statements_of};
 ghost use Rattle.term.specs.Names.{unbound_names, binding_names, group_names, statement_names, name_faults};
 
-use super::least::{fault_if, lower};
+use super::least::lower;
 use super::statement::{Binding, Statement};
 use super::term::Term;
 
@@ -28,7 +28,7 @@ fn binding_name(binding: &Binding) -> Option<usize>
     ensures { result ≡ least (binding_names (binding_of binding.now)) }
 {
     lower(
-        fault_if(binding.taken, binding.token),
+        binding.taken.then_some(binding.token),
         unbound(&binding.term),
     )
 }

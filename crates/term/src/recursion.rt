@@ -5,7 +5,7 @@ ghost use Rattle.term.specs.Terms.{term_of};
 ghost use Rattle.term.specs.Statements.{binding_of, statement_of, statements_of};
 ghost use Rattle.term.specs.Recursion.{of_group, denies_right, denied, group_denied, binds, statement_denied, all_denied};
 
-use super::least::{fault_if, lower};
+use super::least::lower;
 use super::statement::{Binding, Statement};
 use super::term::Term;
 use sentence::sign::Infix;
@@ -31,7 +31,7 @@ impl Span {
 fn denies_right(sign: Infix) -> bool
     ensures { result ≡ denies_right sign }
 {
-    matches!(sign, Infix::Backslash)
+    sign == Infix::Backslash
 }
 
 /// The first of the group's names under `~` or right of `\`; the flag says whether the term itself stands so.
@@ -40,7 +40,7 @@ fn denied(group: Span, under: bool, term: &Term) -> Option<usize>
 {
     match term {
         Term::Given(_) | Term::Unbound(_) => None,
-        Term::Bound(place, number) => fault_if(under && group.has(*number), *place),
+        Term::Bound(place, number) => (under && group.has(*number)).then_some(*place),
         Term::Test(_, inside) | Term::Ended(_, _, inside) => denied(group, under, inside),
         Term::Complement(inside) => denied(group, true, inside),
         Term::Joined(_, sign, left, right) => lower(
@@ -93,7 +93,8 @@ pub fn recursion_fault(statements: &[Statement]) -> Option<usize>
 {
     let mut fault = None;
     let mut before: u128 = 0;
-    // A loop and no chain: the number of bindings before goes from statement to statement.
+    // A loop and no `scan`: its closure would have the same two steps, and cannot know the bound of the number of bindings before,
+    // which the loop's invariant says; `flatten` would have to follow, for the place is an Option.
     for statement in statements {
         fault = lower(fault, statement_denied(before, statement));
         before += binds(statement) as u128;

@@ -90,5 +90,5 @@ pub(crate) fn behind(operand: Kind, kind: Kind) -> Kind
 pub(crate) fn takes(word: Word, operand: Kind) -> bool
     ensures { result ≡ takes word operand }
 {
-    matches!(word, Word::Empty) || as_relation(operand)
+    word == Word::Empty || as_relation(operand)
 }

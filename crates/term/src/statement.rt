@@ -11,13 +11,8 @@ pub struct Binding {
     pub term: Term,
 }
 
-/// A check has neither flag nor label, a label, or a flag with its label.
-#[derive(Drop)]
-pub enum Mark {
-    Plain,
-    Labelled(Vec<u8>),
-    Flagged(Vec<u8>),
-}
+/// The mark of a check, with the bytes of its label.
+pub type Mark = sentence::statement::Mark<Vec<u8>>;
 
 /// A check: its word by its token too.
 #[derive(Drop)]

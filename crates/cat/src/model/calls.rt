@@ -50,10 +50,9 @@ impl Model {
     pub fn statements(&self) -> &[Statement]
         ensures { statements_of result.now ≡ model_statements self.now }
     {
-        match &self.statements {
-            Some(statements) => statements.as_slice(),
-            None => &[],
-        }
+        self.statements
+            .as_ref()
+            .map_or(&[], |statements| statements.as_slice())
     }
 
     /// How many checks the model has, flags included.

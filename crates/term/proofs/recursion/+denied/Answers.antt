@@ -1,6 +1,7 @@
 use Rattle.std.proofs.Common.{◌≡◌, ◌&&◌, ◌||◌, ap, ◌∙◌}
 use Rattle.term.specs.Terms.{term_of}
 use Rattle.term.specs.Recursion.{of_group, denies_right}
+use Rattle.term.proofs.Lowering.{fault_least}
 use Rattle.term.proofs.Shapes.{shape_complement, shape_joined}
 use Rattle.term.proofs.Counting.{true_both, false_both, true_either, false_either, denied_none, denied_bound, denied_inside, denied_complement, denied_joined}
 use Rattle.term.proofs.recursion.+denied.Goals as goal
@@ -14,9 +15,9 @@ returns-in-Given-2 t c = denied_none c.args.group.first c.args.group.many c.args
 
 pub returns-after-under : goal.returns-after-under
 returns-after-under t c =
-    let here : c.if-under.fault_if ≡ (c.args.under && of_group c.args.group.first c.args.group.many c.in-Bound.number) =
-    elim c.if-under.branch [ then-under w ↦ w.fault_if-is ∙ w.has.ensures ∙ true_both c.args.under _ w.if-under.true | else-under w ↦ w.fault_if-is ∙ false_both c.args.under _ w.if-under.false ] in
-    denied_bound c.args.group.first c.args.group.many c.args.under c.if-under.fault_if (ap term_of c.in-Bound.is) here c.fault_if.ensures
+    let here : c.if-under.then_some ≡ (c.args.under && of_group c.args.group.first c.args.group.many c.in-Bound.number) =
+    elim c.if-under.branch [ then-under w ↦ w.then_some-is ∙ w.has.ensures ∙ true_both c.args.under _ w.if-under.true | else-under w ↦ w.then_some-is ∙ false_both c.args.under _ w.if-under.false ] in
+    denied_bound c.args.group.first c.args.group.many c.args.under c.if-under.then_some (ap term_of c.in-Bound.is) here (c.then_some.ensures ∙ fault_least c.if-under.then_some c.in-Bound.place)
 
 pub returns-in-Test : goal.returns-in-Test
 returns-in-Test t c = denied_inside c.args.group.first c.args.group.many c.args.under c.in-Test.is c.deref-in-Test.ensures c.denied-in-Test.ensures

@@ -1,3 +1,4 @@
+use Rattle.std.proofs.Common.{◌≡◌, rules, tests}
 use Rattle.sentence.specs.Exprs.{tree_of}
 use Rattle.sentence.specs.Statements.{Binds}
 use Rattle.sentence.proofs.Looking.{handed}
@@ -21,5 +22,7 @@ returns-in_err-piece c =
 
 pub returns : goal.returns
 returns c =
-    goes_bound c.args.self.sorts.now c.args.at c.in_ok-equals.equals c.in_ok-start.start (tree_of c.in_ok-piece.piece.item) c.in_ok-piece.piece.next
-    c.in_ok-equals.ensures.stands c.in_ok-start.ensures.stands c.in_ok-piece.ensures.led c.in_ok-piece.ensures.halts
+    let made : c.map.result.item.tree ≡ c.in_ok-piece.piece.item = search (rules, tests) in
+    rw (made, c.map.ensures.next)
+    (goes_bound c.args.self.sorts.now c.args.at c.in_ok-equals.equals c.in_ok-start.start (tree_of c.in_ok-piece.piece.item) c.in_ok-piece.piece.next
+    c.in_ok-equals.ensures.stands c.in_ok-start.ensures.stands c.in_ok-piece.ensures.led c.in_ok-piece.ensures.halts)

@@ -1,4 +1,5 @@
-use Rattle.std.proofs.Common.{refl}
+use Rattle.std.proofs.Common.{◌≡◌, refl, rules, tests}
+use Rattle.sentence.specs.declared.statement.Statement.TheVariants.{Let}
 use Rattle.sentence.specs.Machine.{recs, speaks, let_seen, name_due, first, feed}
 use Rattle.sentence.specs.Exprs.{tree_of}
 use Rattle.sentence.specs.Statements.{Stated}
@@ -18,4 +19,6 @@ returns-in_err-bound c =
 
 pub returns : goal.returns
 returns c =
-    goes_let c.args.self.sorts.now c.args.at (tree_of c.in_ok-bound.bound.item.tree) c.in_ok-bound.bound.next (not_so _ c.stands.ensures c.if-stands.false) c.in_ok-bound.ensures
+    let made : c.map.result.item ≡ Let c.in_ok-bound.bound.item = search (rules, tests) in
+    rw (made, c.map.ensures.next)
+    (goes_let c.args.self.sorts.now c.args.at (tree_of c.in_ok-bound.bound.item.tree) c.in_ok-bound.bound.next (not_so _ c.stands.ensures c.if-stands.false) c.in_ok-bound.ensures)
