@@ -64,7 +64,7 @@ impl Event {
     }
 
     /// Whether its thread is that of a core, 1 to 8.
-    pub(crate) fn is_threaded(&self) -> bool
+    pub fn is_threaded(&self) -> bool
         ensures { result ≡ is_threaded self.now }
     {
         (1..=8).contains(&self.thread)

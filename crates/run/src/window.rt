@@ -33,6 +33,7 @@ impl<S> WindowFault<S> {
     }
 }
 
+/// The event, if it is a read or write of the location.
 fn within(location: u8, event: Option<Event>) -> Option<Event>
     ensures { result ≡ within location event }
 {
