@@ -33,7 +33,7 @@ pub(crate) fn program_order(events: &Snapshot) -> Relation
     ensures { Shows result.rows (program_order (table_run events.now.events)) }
 {
     pairs(events, |_, event, other| {
-        (1..=8).contains(&event.thread) && event.thread == other.thread && event.step < other.step
+        event.is_threaded() && event.thread == other.thread && event.step < other.step
     })
 }
 

@@ -1,11 +1,16 @@
 -- The answer of a search for each rule makes the answer to the question whether a run is sound. Assumes nothing.
-use Rattle.std.proofs.Common.{◌≡◌, ℕ, zero, suc, ◌<◌, true, false, not, List, [], ◌∷◌, get_or, None, sym, refl, ap, ◌∙◌, subst, arith}
+use Rattle.std.proofs.Common.{◌≡◌, ℕ, zero, suc, ◌+◌, ◌<◌, true, false, not, List, [], ◌∷◌, get_or, Some, None, Option, MatchOption, option_map, IsTrue, IfSome, IsSomeAnd, sym, refl, ap, ◌∙◌, subst, arith}
+use Rattle.std.specs.Iterator.Runs.{ItemsMapTo, AllItemsGive, IsFirstToGive, CallKeepsClosure}
+use Rattle.std.specs.Iterator.Runs as walk
+use denote.Ref.{Bor}
+use denote.Param.Members.{Mut, Called}
 use Rattle.std.proofs.lemmas.Bool.Decides.{not_from_Decides}
 use Rattle.run.specs.declared.event.Event.{Event}
 use Rattle.run.specs.declared.rule.Rule.{Rule}
 use Rattle.run.specs.declared.rule.Rule.TheVariants.{Ranges, Steps, Initials, Sources, Settlings, Initialised, Tied}
 use Rattle.run.specs.Runs.{Run, Stands}
-use Rattle.run.specs.Rules.{Keeps, Kept, Sound, FirstBreach}
+use Rattle.run.specs.declared.rule.Breach.{Breach}
+use Rattle.run.specs.Rules.{Keeps, Kept, Sound, FirstBreach, Examined}
 use Rattle.run.specs.Numbers.{rule_number}
 use Rattle.run.specs.Tests.{holds, broken, faulty, LowestAt, Lowest}
 use Rattle.run.proofs.Rules.{flag_decided, holds_decided, decided}
@@ -74,3 +79,32 @@ all_kept run below rule = let at = listed rule in kept_lower 7 run below rule (o
 pub first_breach : (i : ℕ) (run : Run) (k : ℕ) → i < 7 → KeptBelow i run → LowestAt (faulty (get_or in_order i Ranges) run) k → FirstBreach run (record { rule = get_or in_order i Ranges; event = k })
 first_breach i run k lt below found =
     breach_from (get_or in_order i Ranges) run k (λ rule lower. kept_lower i run below rule (subst (λ n. rule_number rule < n) (numbered i lt) lower)) found
+
+-- what the search for one rule answers: nothing, or the breach of it
+abbrev pub Tried : Run → Rule → Option Breach → Type 0
+Tried run rule None = Lowest (faulty rule run) None
+Tried run rule (Some b) = (b.rule ≡ rule) × LowestAt (faulty rule run) b.event
+
+-- an item of the walk is the rule at its place
+met : (o : Option (Bor Rule)) (rule : Rule) (P : Bor Rule → Type 0) → option_map (λ x. x.now) o ≡ Some rule → IfSome o P → (x : Bor Rule) × (x.now ≡ rule) × P x
+met None rule P is h = cc is
+met (Some x) rule P is h = (x, cc is, h)
+
+given : (o : Option (Bor Rule)) (P : Bor Rule → Type 0) → IsSomeAnd o P → IfSome o P
+given None P h = absurd h
+given (Some x) P h = h
+
+module _ {S F : Type 0} {steps : S → Option (Bor Rule) → S → Type 0} {g : Mut F (Bor Rule × Unit {0}) (Option Breach)} {f : F} (run : Run) (p : walk.Run steps) (items : ItemsMapTo p (λ x. x.now) in_order) (keeps : CallKeepsClosure g f) (tries : (x : Bor Rule) (r : Option Breach) → Called g f (x, tt) r f → Tried run x.now r) where
+  -- the walk's item at a place, of which the search answered
+  at_place : (k : ℕ) (r : Option Breach) → k < p.len → IfSome (p.at k) (λ x. Called g f (x, tt) r f) → Tried run (get_or in_order k Ranges) r
+  at_place k r lt h = let x = met (p.at k) _ _ (items.2 k Ranges lt) h in subst (λ rule. Tried run rule r) x.1 (tries x.0 r x.2)
+
+  -- the walk through the rules with a search for each finds the first breach
+  pub examined : (r : Option Breach) → MatchOption r (IsTrue p.whole × AllItemsGive p g f None) (λ y. (i : ℕ) × (i < p.len) × (p.len ≡ i + 1) × IsFirstToGive p g f (Some y) None i) → Examined run r
+  examined None h = all_kept run (λ k lt. kept_from _ run (at_place k None (omega (arith, lt, items.1 h.0)) (h.1 keeps k)))
+  examined (Some b) h =
+      let first = h.3 keeps in
+      let found = at_place h.0 (Some b) h.1 (given (p.at h.0) (λ x. Called g f (x, tt) (Some b) f) first.0) in
+      let below : KeptBelow h.0 run = λ k lt. kept_from _ run (at_place k None (omega (arith, lt, h.1)) (given (p.at k) (λ x. Called g f (x, tt) None f) (first.1 k lt))) in
+      let named : FirstBreach run (record { rule = get_or in_order h.0 Ranges; event = b.event }) = first_breach h.0 run b.event (omega (arith, h.1, items.0)) below found.1 in
+      subst (λ rule. FirstBreach run (record { rule = rule; event = b.event })) (sym found.0) named

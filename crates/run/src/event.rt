@@ -4,6 +4,9 @@ ghost use Rattle.std.specs.Prelude.{◌≡◌};
 ghost use Rattle.run.specs.Kinds.{is};
 ghost use Rattle.run.specs.Tests.{is_read, is_initial, is_write, is_memory, is_threaded, same_place, same_step, supplies, well_threaded, well_placed, in_range};
 
+/// How many locations there are: 0 to 15.
+pub const LOCATIONS: u8 = 16;
+
 /// What an event can be, each kind with its number.
 #[derive(Clone, Copy, PartialEq, Eq, Debug)]
 pub enum Kind {
@@ -64,7 +67,7 @@ impl Event {
     }
 
     /// Whether its thread is that of a core, 1 to 8.
-    pub(crate) fn is_threaded(&self) -> bool
+    pub fn is_threaded(&self) -> bool
         ensures { result ≡ is_threaded self.now }
     {
         (1..=8).contains(&self.thread)
@@ -107,7 +110,7 @@ impl Event {
         ensures { result ≡ well_placed self.now }
     {
         if self.is_memory() {
-            self.location <= 15
+            self.location < LOCATIONS
         } else {
             self.location == 0 && self.value == 0
         }

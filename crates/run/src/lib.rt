@@ -8,9 +8,9 @@ pub mod sound;
 pub mod source;
 pub mod window;
 
-pub use event::{Event, Kind};
+pub use event::{Event, Kind, LOCATIONS};
 pub use rule::{Breach, Rule};
-pub use snapshot::Snapshot;
+pub use snapshot::{EVENTS, Snapshot};
 pub use sound::soundness;
 pub use source::RunSource;
 pub use window::{Window, WindowFault};

@@ -2,6 +2,8 @@
 ghost use Rattle.std.specs.Prelude.{◌≡◌, ◌+◌, ◌*◌};
 ghost use Rattle.run.specs.Numbers.{rule_number};
 
+use super::snapshot::EVENTS;
+
 /// A rule of a sound run, in the order in which they are tried.
 #[derive(Clone, Copy, PartialEq, Eq, Debug)]
 pub enum Rule {
@@ -42,6 +44,6 @@ impl Breach {
     pub fn place(&self) -> usize
         ensures { result ≡ rule_number self.now.rule * 32 + self.now.event }
     {
-        self.rule.number() as usize * 32 + self.event as usize
+        self.rule.number() as usize * EVENTS + self.event as usize
     }
 }

@@ -10,10 +10,13 @@ use super::event::Event;
 use super::rule::Rule;
 use super::source::RunSource;
 
+/// How many numbers there are for events: 0 to 31.
+pub const EVENTS: usize = 32;
+
 /// The events of a run by their numbers, with nothing asked of them.
 #[derive(Clone, Copy)]
 pub struct Snapshot {
-    pub events: [Option<Event>; 32],
+    pub events: [Option<Event>; EVENTS],
 }
 
 /// A snapshot shows what it holds.
@@ -30,7 +33,9 @@ impl Snapshot {
     pub fn empty() -> Snapshot
         ensures { table_run result.events ≡ nothing }
     {
-        Snapshot { events: [None; 32] }
+        Snapshot {
+            events: [None; EVENTS],
+        }
     }
 
     /// Whether some event passes a test.
@@ -48,7 +53,7 @@ impl Snapshot {
         requires { F.IsAlwaysCallable test }
         ensures { Searched (FnReturnsAt F.Fn test) (without n (table_run self.now.events)) result }
     {
-        (0..32u8).any(|m| m != n && self.event(m).is_some_and(|other| test(&other)))
+        (0..EVENTS as u8).any(|m| m != n && self.event(m).is_some_and(|other| test(&other)))
     }
 
     /// Whether another settled write has the location of the event at `n`.
@@ -117,7 +122,7 @@ impl Snapshot {
     pub(crate) fn lowest_broken(&self, rule: Rule) -> Option<u8>
         ensures { Lowest (faulty rule (table_run self.now.events)) result }
     {
-        (0..32u8).find(|n| self.faulty(rule, *n))
+        (0..EVENTS as u8).find(|n| self.faulty(rule, *n))
     }
 
     /// The numbers of the events that pass a test, as a mask: bit n for the event at n.

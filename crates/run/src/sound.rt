@@ -34,12 +34,10 @@ impl Snapshot {
     pub fn examine(&self) -> Option<Breach>
         ensures { Examined (table_run self.now.events) result }
     {
-        for rule in RULES {
-            if let Some(event) = self.lowest_broken(rule) {
-                return Some(Breach { rule, event });
-            }
-        }
-        None
+        RULES.iter().find_map(|rule| {
+            self.lowest_broken(*rule)
+                .map(|event| Breach { rule: *rule, event })
+        })
     }
 }
 

@@ -3,7 +3,7 @@ ghost use Rattle.std.specs.Prelude.{◌≡◌, ◌<◌, ◌≤◌, IfOk, MatchRe
 ghost use Rattle.run.specs.Runs.{Run, shown};
 ghost use Rattle.run.specs.Windows.{within, windowed, ShowsLocation, window_refusal};
 
-use super::event::Event;
+use super::event::{Event, LOCATIONS};
 use super::source::RunSource;
 use refusal::{Part, Refusal};
 
@@ -33,6 +33,7 @@ impl<S> WindowFault<S> {
     }
 }
 
+/// The event, if it is a read or write of the location.
 fn within(location: u8, event: Option<Event>) -> Option<Event>
     ensures { result ≡ within location event }
 {
@@ -55,7 +56,7 @@ impl<S: RunSource> Window<S> {
         ensures opened { MatchResult result (λ w. (w.source ≡ source) × (w.location ≡ location)) (λ f. f.source ≡ source) }
         ensures shows { IfOk result (λ w. ShowsLocation location (S.RunSource.standing source) (windowed w.location (S.RunSource.standing w.source))) }
     {
-        if location > 15 {
+        if location >= LOCATIONS {
             return Err(WindowFault { source });
         }
         Ok(Window { source, location })
