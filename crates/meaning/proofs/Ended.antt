@@ -1,12 +1,8 @@
 -- What the climb to the least solution of a let rec group begins and ends at. Assumes nothing.
-use Rattle.std.specs.Prelude.{◌≡◌, ℕ, ◌<◌, ◌≤◌, length, replicate}
-use Rattle.std.proofs.Common.{◌∙◌, ap, subst, arith}
-use Rattle.std.proofs.Math.Path.{subst⁻¹}
-use Rattle.std.proofs.lemmas.List.{length-replicate}
+use Rattle.std.specs.Prelude.{◌≡◌, ℕ, ◌<◌, ◌≤◌, length}
+use Rattle.std.proofs.Common.{◌∙◌, subst, arith}
 use Rattle.finite.specs.Lists.{At}
-use Rattle.relation.specs.declared.relation.Relation.{Relation}
-use Rattle.relation.specs.Relations.{Pairs, Never, Inside}
-use Rattle.relation.specs.Masks.{Shows}
+use Rattle.relation.specs.Relations.{Pairs, Inside}
 use Rattle.relation.specs.Climbs.{Rounds, none, again, Climbed}
 use Rattle.given.specs.Bases.{base_meaning}
 use Rattle.term.specs.Statements.{Binding}
@@ -14,10 +10,10 @@ use Rattle.meaning.specs.declared.solving.Solving.{Solving}
 use Rattle.meaning.specs.Operators.{pairs_of}
 use Rattle.meaning.specs.Meanings.{meaning}
 use Rattle.meaning.specs.Groups.{Candidates, told, Solves}
-use Rattle.meaning.specs.Systems.{System, rows_at, Table, before, names, Body, Positive, slots, Least}
+use Rattle.meaning.specs.Systems.{System, Table, before, names, Body, Positive, slots, Least}
 use Rattle.meaning.specs.Solvings.{SolvingBegins, SolvingSteps, SolvingBelow, SolvingSolves, SolvingAlong}
 use Rattle.meaning.specs.Solved.{begins_empty, step_inside}
-use Rattle.meaning.proofs.Placed.{table_all, candidates, candidates_are, at_below, at_only}
+use Rattle.meaning.proofs.Placed.{candidates, candidates_are, at_below, at_only}
 use Rattle.meaning.proofs.Knowing.{same_all_self, solves_same}
 
 -- what holds at the start, and of every next value, holds of every value reached
@@ -28,16 +24,6 @@ rounds_keep P p next (again r s) = next _ _ (rounds_keep P p next r) s
 -- what the equation of a name gives is what its term means
 body_at : (s : System) (R : ℕ → Pairs) (j : ℕ) (x : Binding) → At s.bindings j x → (a b : ℕ) → Body s R j a b → pairs_of (meaning (base_meaning s.base) (names s R) x.term) a b
 body_at s R j x h a b m = subst (λ y. pairs_of (meaning (base_meaning s.base) (names s R) y.term) a b) (at_only s.bindings j m.0 x m.1 h) m.2
-
-module _ {E : Type 0} where
-  -- a table of nothing
-  pub solving_bottom : (problem x : Solving E) (r : Relation) → x.equations ≡ problem.equations → x.found ≡ replicate 64 r → Shows r.rows Never → SolvingBegins problem x
-  solving_bottom problem x r p q s =
-      record {
-        equations = p;
-        long = ap length q ∙ length-replicate 64 r;
-        nothing = λ i l. subst⁻¹ (λ xs. Shows (rows_at xs i) Never) q (table_all (λ rows. Shows rows Never) 64 r s i l);
-      }
 
 module _ {E : Type 0} (system : E → System) where
   -- the end of the climb is the least solution

@@ -70,7 +70,7 @@ fn check_in(statement: &Statement) -> Option<&Check>
 fn try_all(setting: &Setting<'_>, statements: &[Statement]) -> Outcome
     ensures { Totalled (base_meaning setting.now.base.now) (map value_meaning setting.now.known.now) (statements_of statements.now) result }
 {
-    let mut outcome = Outcome::none();
+    let mut outcome = Outcome::default();
     let checks = statements.iter().filter_map(check_in);
     for (number, check) in (0..MOST_CHECKS).zip(checks) {
         outcome = outcome.with(number, is_flag(&check.mark), holds(setting, check));

@@ -41,6 +41,8 @@ impl<'a, 'b> Equations for Group<'a, 'b> {
     }
 
     fn value(&self, found: &[Relation; ROOM], slot: usize) -> Relation {
+        // A match: with `map_or` the goal `returns` of `value` stayed open, since the check learnt nothing of its closure, which calls
+        // `evaluate`; with a clause of its own, said of what it captures, the closure is longer than the two arms.
         match self.bindings.get(slot) {
             Some(binding) => {
                 // A copy: where the group's own is lent, each round copies the table once more, a fifth of the time.

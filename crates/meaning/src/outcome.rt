@@ -1,11 +1,11 @@
 //! What comes of trying checks.
-ghost use Rattle.std.specs.Prelude.{◌≡◌, ◌<◌, not, ◌&&◌, None};
+ghost use Rattle.std.specs.Prelude.{◌≡◌, ◌<◌, not, ◌&&◌};
 ghost use Rattle.meaning.specs.Outcomes.{first_of, RaisesBit};
 
 use relation::mask;
 
 /// The first check without flag that does not hold, and a bit for each flag that holds.
-#[derive(Clone, Copy)]
+#[derive(Clone, Copy, Default)]
 pub struct Outcome {
     pub failure: Option<u8>,
     pub flags: u32,
@@ -24,17 +24,6 @@ fn raised(flags: u32, number: u8, up: bool) -> u32
 }
 
 impl Outcome {
-    /// Nothing is tried yet.
-    pub(crate) fn none() -> Outcome
-        ensures failure { result.failure ≡ None }
-        ensures flags { result.flags ≡ 0 }
-    {
-        Outcome {
-            failure: None,
-            flags: 0,
-        }
-    }
-
     /// With one more check: its number, whether it is a flag, and whether it holds.
     pub(crate) fn with(self, number: u8, flag: bool, good: bool) -> Outcome
         requires { number < 16 }

@@ -25,13 +25,10 @@ impl<'a> Setting<'a> {
     fn named(&self, found: &[Relation], number: usize) -> Value
         ensures { Means result (slice_index_or (map value_meaning self.now.known.now ++ map relation_meaning found.now) number (of_pairs Never)) }
     {
-        match self.known.get(number) {
-            Some(value) => *value,
-            None => {
-                let relation = found.get(number - self.known.len()).copied();
-                Value::pairs(relation.unwrap_or(Relation::none()))
-            }
-        }
+        self.known.get(number).copied().unwrap_or_else(|| {
+            let relation = found.get(number - self.known.len()).copied();
+            Value::pairs(relation.unwrap_or(Relation::none()))
+        })
     }
 
     /// The value of a term, by what is given, the values that are known and, numbered on, the relations that are found.

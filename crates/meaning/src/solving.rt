@@ -1,7 +1,9 @@
 //! The climb to the least solution of a let rec group.
-ghost use Rattle.std.specs.Prelude.{map};
+ghost use Rattle.std.specs.Prelude.{◌≡◌, ℕ, ◌<◌, map};
+ghost use Rattle.relation.specs.Relations.{Never};
+ghost use Rattle.relation.specs.Masks.{Shows};
 ghost use Rattle.term.specs.Statements.{binding_of};
-ghost use Rattle.meaning.specs.Systems.{Least};
+ghost use Rattle.meaning.specs.Systems.{Least, rows_at};
 ghost use Rattle.meaning.specs.Solvings.{SolvingBegins, SolvingSteps, SolvingBelow, SolvingSolves, SolvingAlong, SolvingAlike, solving_height};
 ghost use Rattle.meaning.specs.Solved.{solving_start, solving_onward, solving_matched, solving_falls, solving_least, solving_within, solving_solved};
 
@@ -18,6 +20,18 @@ pub struct Solving<E> {
     pub equations: E,
     // An array: nothing here has heap memory.
     pub found: [Relation; ROOM],
+}
+
+impl<E> Solving<E> {
+    /// No pair is found yet.
+    fn none(equations: E) -> Solving<E>
+        ensures equations { result.equations ≡ equations }
+        ensures nothing { (slot : ℕ) → slot < 64 → Shows (rows_at result.found slot) Never }
+    {
+        let none = Relation::none();
+        let found = [none; ROOM];
+        Solving { equations, found }
+    }
 }
 
 /// The climb to the least solution.
@@ -51,10 +65,7 @@ impl<E: Equations + Copy> Ascent for Solving<E> {
     ghost solved = { solving_solved E.Equations.system };
 
     fn bottom(&self) -> Solving<E> {
-        let equations = self.equations;
-        let none = Relation::none();
-        let found = [none; ROOM];
-        Solving { equations, found }
+        Solving::none(self.equations)
     }
 
     fn step(&self) -> Solving<E> {
@@ -79,11 +90,9 @@ impl<E: Equations + Copy> Ascent for Solving<E> {
 pub fn solve(setting: &Setting<'_>, bindings: &[Binding]) -> [Relation; ROOM]
     ensures { Least (record { base = setting.now.base.now; known = setting.now.known.now; bindings = map binding_of bindings.now }) result }
 {
-    let none = Relation::none();
-    let found = [none; ROOM];
-    let equations = Group {
+    let group = Group {
         setting: *setting,
         bindings,
     };
-    climb(&Solving { equations, found }).found
+    climb(&Solving::none(group)).found
 }

@@ -1,17 +1,22 @@
-use Rattle.std.proofs.Common.{ap, ◌∙◌, subst, arith}
-use Rattle.std.specs.Option.{unwrap_or}
-use Rattle.relation.specs.Values.{Means}
-use Rattle.meaning.specs.Tables.{relation_meaning}
+use Rattle.std.proofs.Common.{refl, rules, Some, None, ◌≡◌, ◌≤◌, ◌-◌, ◌++◌, map, length, slice_index_or}
+use Rattle.relation.specs.declared.relation.Relation.{Relation}
+use Rattle.relation.specs.Relations.{Never}
+use Rattle.relation.specs.Masks.{Shows}
+use Rattle.relation.specs.Values.{Means, of_pairs}
+use Rattle.meaning.specs.Tables.{value_meaning, relation_meaning}
 use Rattle.meaning.proofs.Evaluated.{known_at, found_means}
 use Rattle.meaning.proofs.setting.Setting.named.Goals as goal
 
-pub returns-in-Some : goal.returns-in-Some
-returns-in-Some c =
-    let h = c.in-Some.ensures.lookup in
-    known_at c.in-Some.value.now c.args.self.now.known.now _ c.args.number h.3.0 h.1
-
-pub returns-in-None : goal.returns-in-None
-returns-in-None c =
-    let none = c.none.result in
-    found_means c.pairs.result c.args.self.now.known.now c.args.found.now c.args.number none c.in-None.ensures.lookup.3 c.none.ensures
-    (subst (λ r. Means c.pairs.result (relation_meaning r)) (c.unwrap_or.ensures ∙ ap (λ o. unwrap_or o none) c.copied-relation.ensures ∙ c.get-in-None.ensures.lookup.4 (omega arith) none) c.pairs.ensures)
+pub returns : goal.returns
+returns c =
+    let vs = c.args.self.now.known.now in
+    let rs = c.args.found.now in
+    let v = c.unwrap_or_else.result in
+    let i = c.args.number in
+    (elim c.get.result as (λ o. c.get.result ≡ o → Means v (slice_index_or (map value_meaning vs ++ map relation_meaning rs) i (of_pairs Never))) [
+      | None ↦ λ e. let past : length vs ≤ i = search rules in
+          let n : c.copied.result ≡ None = search rules in
+          let h : (d : Relation) × Shows d.rows Never × Means v (relation_meaning (slice_index_or rs (i - length vs) d)) = search rules in
+          found_means v vs rs i h.0 past h.1 h.2
+      | Some w ↦ λ e. known_at v vs _ i (search rules) (search rules)
+    ]) refl
