@@ -12,8 +12,7 @@ returns-in_err-piece c =
 
 pub loop-piece-preserved : goal.loop-piece-preserved
 loop-piece-preserved c =
-    let p = piece_given c.args.text.now c.loop-piece.piece-iterator c.next.new.self c.in-Some.piece c.in_ok-piece.field-0 c.loop-piece.invariant.2 c.in-Some.ensures.steps c.in_ok-piece.was in
-    (
+    let p = piece_given c.args.text.now c.loop-piece.piece-iterator c.next.new.self c.in-Some.piece c.in_ok-piece.field-0 c.loop-piece.invariant.2 c.in-Some.ensures.steps c.in_ok-piece.was in (
       tt,
       tt,
       p.3,

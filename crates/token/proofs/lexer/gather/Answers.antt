@@ -15,8 +15,7 @@ returns-in_err-place c =
 pub loop-piece-preserved-in_default : goal.loop-piece-preserved-in_default
 loop-piece-preserved-in_default c =
     let p = piece_given c.args.text.now c.loop-piece.piece-iterator c.next.new.self c.in-Some.piece (c.in_ok-place.place, c.in_ok-place.piece) c.loop-piece.invariant.2 c.in-Some.ensures.steps c.in_ok-place.was in
-    let none = ap (λ t. stretch_view t c.in_ok-place.piece.length) (sym c.in_default.is) ∙ p.1 in
-    (
+    let none = ap (λ t. stretch_view t c.in_ok-place.piece.length) (sym c.in_default.is) ∙ p.1 in (
       tt,
       tt,
       p.3,
@@ -28,8 +27,7 @@ pub returns-then-len-eq-TOKENS : goal.returns-then-len-eq-TOKENS
 returns-then-len-eq-TOKENS c =
     let p = piece_given c.args.text.now c.loop-piece.piece-iterator c.next.new.self c.in-Some.piece (c.in_ok-place.place, c.in_ok-place.piece) c.loop-piece.invariant.2 c.in-Some.ensures.steps c.in_ok-place.was in
     let some = ap (λ t. stretch_view t c.in_ok-place.piece.length) (sym c.in-Some-token.is) ∙ p.1 in
-    let full : length c.loop-piece.found.items ≡ 1024 = search rules in
-    (
+    let full : length c.loop-piece.found.items ≡ 1024 = search rules in (
       c.requires.short,
       subst (Crowded c.args.text.now) (sym p.0)
           (gathered_full c.args.text.now c.loop-piece.piece-iterator.at c.loop-piece.found.items c.in-Some-token.token c.in_ok-place.piece.length c.requires.lexable c.loop-piece.invariant.3 full some),
@@ -40,8 +38,7 @@ loop-piece-preserved c =
     let p = piece_given c.args.text.now c.loop-piece.piece-iterator c.next.new.self c.in-Some.piece (c.in_ok-place.place, c.in_ok-place.piece) c.loop-piece.invariant.2 c.in-Some.ensures.steps c.in_ok-place.was in
     let some = ap (λ t. stretch_view t c.in_ok-place.piece.length) (sym c.in-Some-token.is) ∙ p.1 in
     let size : length c.loop-piece.found.items ≡ c.len.result = search rules in
-    let pushed : c.push.new.self.items ≡ c.loop-piece.found.items ++ (record { token = c.in-Some-token.token; place = c.in_ok-place.place } ∷ []) = search rules in
-    (
+    let pushed : c.push.new.self.items ≡ c.loop-piece.found.items ++ (record { token = c.in-Some-token.token; place = c.in_ok-place.place } ∷ []) = search rules in (
       tt,
       tt,
       p.3,
