@@ -1,17 +1,20 @@
--- A walk that keeps the tokens that it meets, until one cannot be kept. Assumes nothing.
-use Rattle.std.proofs.Common.{◌≡◌, ℕ, ◌+◌, ◌<◌, ◌≤◌, List, [], ◌∷◌, ◌++◌, map, length, drop, Some, None, Ok, Err, Option, Result, Vec, vec_items, MatchResult, sym, refl, ap, ◌∙◌, subst, append_assoc, append-nil, arith}
-use Rattle.std.specs.declared.alloc.Global.{Global}
+-- A walk from piece to piece, and one that keeps the tokens that it meets. Assumes nothing.
+use Rattle.std.proofs.Common.{◌≡◌, ℕ, ◌+◌, ◌<◌, ◌≤◌, List, [], ◌∷◌, ◌++◌, map, length, drop, Some, None, Ok, Err, Option, Result, sym, refl, ap, ◌∙◌, subst, append_assoc, append-nil, arith, length-drop}
 use lib.ListN.{length-map}
 use Rattle.token.specs.declared.token.Token.{Token}
 use Rattle.token.specs.declared.token.Lexeme.{Lexeme}
+use Rattle.token.specs.declared.piece.Piece.{Piece}
+use Rattle.token.specs.declared.pieces.Pieces.{Pieces}
 use Rattle.token.specs.declared.fault.ReadFault.{ReadFault}
-use Rattle.token.specs.declared.fault.ReadFault.TheVariants.{TooLong, Stray, TooManyTokens, Memory}
 use Rattle.token.specs.Tokens.{Word}
-use Rattle.token.specs.Lexing.{Strays}
+use Rattle.token.specs.Lexing.{spelled, tokens}
 use Rattle.token.specs.Items.{item_of}
-use Rattle.token.specs.Views.{view, lexeme_view, wrong, stretch_view, parted, Refuses, Keeps}
-use Rattle.token.specs.Lexings.{Told}
-use Rattle.token.proofs.Walks.{Walked, Onward, Reached, Gathered, gathered_word, walked_gap, walked_word, walked_wrong, walked_over}
+use Rattle.token.specs.Views.{view, lexeme_view, stretch_view, parted}
+use Rattle.token.specs.Walking.{GivesPiece}
+use Rattle.token.specs.Lexings.{Lexable, Crowded, Told}
+use Rattle.token.proofs.Never.{no_way}
+use Rattle.token.proofs.Unique.{reads_on}
+use Rattle.token.proofs.Walks.{Walked, Onward, Reached, Gathered, walked_gap, walked_word, walked_wrong, tokens_after}
 
 -- the token that a stretch has at a place
 abbrev met : ℕ → Option Token → List (ℕ × Word)
@@ -23,100 +26,50 @@ turn : (text : List ℕ) (at : ℕ) (found : List (ℕ × Word)) (t : Option Tok
 turn text at found None n w h = subst (λ l. Onward text at l n) (sym (append-nil found)) (walked_gap text at found n w h)
 turn text at found (Some t) n w h = walked_word text at found (view t) n w h
 
--- a walk whose 1,025th token stands at a place
-pub record Overfull (text : List ℕ) (at place : ℕ) : Type 0 where
-  pub found : List (ℕ × Word)
-  pub walks : Walked text at found
-  pub before : List (ℕ × Word)
-  pub extra : Word
-  pub after : List (ℕ × Word)
-  pub splits : found ≡ before ++ ((place, extra) ∷ after)
-  pub full : length before ≡ 1024
+-- a stretch has a byte, and stays within the text
+pub stretch_inside : (text : List ℕ) (at : ℕ) (t : Option Token) (n : ℕ) → at ≤ length text → stretch_view t n ≡ parted (item_of (drop at text)) → (0 < n) × (at + n ≤ length text)
+stretch_inside text at t n l h =
+    let on = turn (drop at text) 0 [] t n (record { items = []; inside = omega arith; reads = refl; here = refl; are = refl }) h in
+    (on.some, omega (arith, on.inside, length-drop at text, l))
 
--- what is known behind a token that could not be kept
-abbrev pub Halted : List ℕ → ℕ → ReadFault → Type 0
-Halted text at TooLong = ⊥
-Halted text at (Stray place) = ⊥
-Halted text at (TooManyTokens place) = Overfull text at place
-Halted text at Memory = Reached text at
+-- what a piece is that the iterator gives
+pub piece_given : (text : List ℕ) (old new : Pieces) (given : Result (ℕ × Piece) ReadFault) (found : ℕ × Piece) → old.text.now ≡ text → GivesPiece old (Some given) new → given ≡ Ok found →
+    (found.0 ≡ old.at) × (stretch_view found.1.token found.1.length ≡ parted (item_of (drop old.at text))) × (new.at ≡ old.at + found.1.length) × (new.text.now ≡ text)
+piece_given text old new (Err fault) found same g is = no_way cc
+piece_given text old new (Ok other) found same g is =
+    let one : other ≡ found = cc in
+    subst (λ (p : ℕ × Piece). (p.0 ≡ old.at) × (stretch_view p.1.token p.1.length ≡ parted (item_of (drop old.at text))) × (new.at ≡ old.at + p.1.length) × (new.text.now ≡ text)) one
+    (g.0, g.1 ∙ ap (λ t. parted (item_of (drop old.at t))) same, g.2, g.3 ∙ same)
 
--- what is known of the walk: its tokens are kept, or one could not be
-abbrev pub Kept : List ℕ → ℕ → Result (Vec Lexeme Global) ReadFault → Type 0
-Kept text at (Ok kept) = Gathered text at (vec_items kept)
-Kept text at (Err fault) = Halted text at fault
+-- a fault that it gives is that of the first stray byte
+pub fault_given : (text : List ℕ) (old new : Pieces) (given : Result (ℕ × Piece) ReadFault) (fault : ReadFault) → length text ≤ 8192 → Reached text old.at → old.text.now ≡ text → GivesPiece old (Some given) new →
+    given ≡ Err fault → Told text (Err fault)
+fault_given text old new (Ok found) fault short r same g is = no_way cc
+fault_given text old new (Err other) fault short r same g is =
+    let one : other ≡ fault = cc in
+    subst (λ f. Told text (Err f)) (sym g.0 ∙ one)
+    (short, walked_wrong text old.at r.found r.walks (subst (λ t. old.at < length t) same g.1) (g.2 ∙ ap (λ t. parted (item_of (drop old.at t))) same))
 
-kept_walks : (text : List ℕ) (at : ℕ) (found : Result (Vec Lexeme Global) ReadFault) → Kept text at found → Reached text at
-kept_walks text at (Ok kept) g = record { found = _; walks = g.walks }
-kept_walks text at (Err TooLong) g = absurd g
-kept_walks text at (Err (Stray place)) g = absurd g
-kept_walks text at (Err (TooManyTokens place)) g = record { found = g.found; walks = g.walks }
-kept_walks text at (Err Memory) g = g
-
--- a stretch leads on, and stays within the text
-pub kept_inside : (text : List ℕ) (at : ℕ) (found : Result (Vec Lexeme Global) ReadFault) (t : Option Token) (n : ℕ) → Kept text at found → stretch_view t n ≡ parted (item_of (drop at text)) →
-    (0 < n) × (at + n ≤ length text)
-kept_inside text at found t n g h =
-    let r = kept_walks text at found g in
-    let on = turn text at r.found t n r.walks h in
-    (on.some, on.inside)
-
--- where none leads on, the byte is stray
-pub kept_stray : (text : List ℕ) (at : ℕ) (found : Result (Vec Lexeme Global) ReadFault) → Kept text at found → at < length text → wrong ≡ parted (item_of (drop at text)) → Strays text at
-kept_stray text at found g l h = let r = kept_walks text at found g in walked_wrong text at r.found r.walks l h
-
-reached_on : (text : List ℕ) (at : ℕ) (t : Option Token) (n : ℕ) → Reached text at → stretch_view t n ≡ parted (item_of (drop at text)) → Reached text (at + n)
+-- one turn, wherever the tokens are
+pub reached_on : (text : List ℕ) (at : ℕ) (t : Option Token) (n : ℕ) → Reached text at → stretch_view t n ≡ parted (item_of (drop at text)) → Reached text (at + n)
 reached_on text at t n r h = record { found = _; walks = (turn text at r.found t n r.walks h).walks }
 
-overfull_on : (text : List ℕ) (at place : ℕ) (t : Option Token) (n : ℕ) → Overfull text at place → stretch_view t n ≡ parted (item_of (drop at text)) → Overfull text (at + n) place
-overfull_on text at place t n o h = record {
-  found = o.found ++ met at t;
-  walks = (turn text at o.found t n o.walks h).walks;
-  before = o.before;
-  extra = o.extra;
-  after = o.after ++ met at t;
-  splits = ap (λ l. l ++ met at t) o.splits ∙ append_assoc o.before ((place, o.extra) ∷ o.after) (met at t);
-  full = o.full;
-}
+-- one turn that has no token
+pub gathered_gap : (text : List ℕ) (at : ℕ) (lexemes : List Lexeme) (n : ℕ) → Gathered text at lexemes → stretch_view None n ≡ parted (item_of (drop at text)) → Gathered text (at + n) lexemes
+gathered_gap text at lexemes n g h = record { walks = (walked_gap text at (map lexeme_view lexemes) n g.walks h).walks; few = g.few }
 
-halted_on : (text : List ℕ) (at : ℕ) (fault : ReadFault) (t : Option Token) (n : ℕ) → Halted text at fault → stretch_view t n ≡ parted (item_of (drop at text)) → Halted text (at + n) fault
-halted_on text at TooLong t n g h = g
-halted_on text at (Stray place) t n g h = g
-halted_on text at (TooManyTokens place) t n g h = overfull_on text at place t n g h
-halted_on text at Memory t n g h = reached_on text at t n g h
-
--- the first token that cannot be kept
-halts : (text : List ℕ) (at : ℕ) (lexemes : List Lexeme) (t : Token) (n : ℕ) (fault : ReadFault) → Gathered text at lexemes → stretch_view (Some t) n ≡ parted (item_of (drop at text)) → Refuses lexemes (Some t) at fault →
-    Halted text (at + n) fault
-halts text at lexemes t n TooLong g h o = absurd o
-halts text at lexemes t n (Stray place) g h o = absurd o
-halts text at lexemes t n (TooManyTokens place) g h (many, is) = record {
-  found = map lexeme_view lexemes ++ ((at, view t) ∷ []);
-  walks = (walked_word text at (map lexeme_view lexemes) (view t) n g.walks h).walks;
-  before = map lexeme_view lexemes;
-  extra = view t;
-  after = [];
-  splits = ap (λ p. map lexeme_view lexemes ++ ((p, view t) ∷ [])) is;
-  full = length-map lexemes lexeme_view ∙ many;
-}
-halts text at lexemes t n Memory g h o = reached_on text at (Some t) n (record { found = _; walks = g.walks }) h
-
--- one turn that keeps its token, if it can
-pub kept_on : (text : List ℕ) (at : ℕ) (old new : Result (Vec Lexeme Global) ReadFault) (t : Option Token) (n : ℕ) → Kept text at old → stretch_view t n ≡ parted (item_of (drop at text)) → Keeps old t at new → Kept text (at + n) new
-kept_on text at (Ok found) (Ok kept) None n g h s = record {
-  walks = subst (λ l. Walked text (at + n) (map lexeme_view l)) (sym s) (walked_gap text at (map lexeme_view (vec_items found)) n g.walks h).walks;
-  few = subst (λ (l : List Lexeme). length l ≤ 1024) (sym s) g.few;
-}
-kept_on text at (Ok found) (Ok kept) (Some t) n g h (room, is) = gathered_word text at (vec_items found) (vec_items kept) (record { token = t; place = at }) n g room is refl h
-kept_on text at (Ok found) (Err fault) None n g h s = absurd s
-kept_on text at (Ok found) (Err fault) (Some t) n g h s = halts text at (vec_items found) t n fault g h s
-kept_on text at (Err fault) new t n g h s = subst (Kept text (at + n)) (sym s) (halted_on text at fault t n g h)
-
--- the walk is over
-pub kept_over : (text : List ℕ) (at : ℕ) (found : Result (Vec Lexeme Global) ReadFault) → length text ≤ 8192 → length text ≤ at → Kept text at found →
-    MatchResult found (λ kept. Told text (Ok (map lexeme_view (vec_items kept)))) (λ fault. Told text (Err fault))
-kept_over text at (Ok kept) short over g = (short, walked_over text at _ g.walks over, omega (arith, length-map (vec_items kept) lexeme_view, g.few))
-kept_over text at (Err TooLong) short over g = absurd g
-kept_over text at (Err (Stray place)) short over g = absurd g
-kept_over text at (Err (TooManyTokens place)) short over g =
-    (short, record { found = g.found; lexes = walked_over text at g.found g.walks over; before = g.before; word = g.extra; after = g.after; splits = g.splits; full = g.full })
-kept_over text at (Err Memory) short over g = (short, record { found = g.found; lexes = walked_over text at g.found g.walks over })
+-- the token behind 1,024 others, in a text that lexes
+pub gathered_full : (text : List ℕ) (at : ℕ) (lexemes : List Lexeme) (t : Token) (n : ℕ) → Lexable text → Gathered text at lexemes → length lexemes ≡ 1024 → stretch_view (Some t) n ≡ parted (item_of (drop at text)) → Crowded text at
+gathered_full text at lexemes t n l g full h =
+    let w = (walked_word text at (map lexeme_view lexemes) (view t) n g.walks h).walks in
+    let more = reads_on text w.items l.lexes.items (drop (at + n) text) w.reads l.lexes.reads in
+    let after = tokens (0 + length (spelled w.items)) more.0 in
+    record {
+      found = l.found;
+      lexes = l.lexes;
+      before = map lexeme_view lexemes;
+      word = view t;
+      after = after;
+      splits = l.lexes.are ∙ ap (tokens 0) more.1 ∙ tokens_after w.items more.0 0 ∙ ap (λ k. k ++ after) (sym w.are) ∙ append_assoc (map lexeme_view lexemes) ((at, view t) ∷ []) after;
+      full = length-map lexemes lexeme_view ∙ full;
+    }

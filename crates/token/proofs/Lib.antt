@@ -6,7 +6,7 @@ pub mod Begins
 pub mod Scans
 pub mod Parts
 pub mod Walks
-pub mod Keeping
 pub mod Unique
+pub mod Keeping
 pub mod Words
 pub mod Computed

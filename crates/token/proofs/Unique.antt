@@ -27,6 +27,15 @@ reads_one text (i ∷ a) (j ∷ b) x y (m, e, p, r) (n, f, q, s) h k =
     let rest = reads_one m a b x y r (subst (λ l. Reads l b y) (sym same.1) s) h k in
     (ap (λ k. k ∷ a) same.0 ∙ ap (λ l. j ∷ l) rest.0, rest.1)
 
+-- a walk through a whole text goes on from any other
+pub reads_on : (text : List ℕ) (a b : List Item) (x : List ℕ) → Reads text a x → Reads text b [] → (more : List Item) × (b ≡ a ++ more)
+reads_on text [] b x r s = (b, refl)
+reads_on text (i ∷ a) [] x (m, e, p, r) s = no_way (let z : None ≡ Some i = sym (ap item_of s) ∙ ap item_of e ∙ stands_found i m p in cc)
+reads_on text (i ∷ a) (j ∷ b) x (m, e, p, r) (n, f, q, s) =
+    let same = begins_one text i j m n e p f q in
+    let more = reads_on m a b x r (subst (λ l. Reads l b []) (sym same.1) s) in
+    (more.0, ap (λ k. k ∷ b) (sym same.0) ∙ ap (λ l. i ∷ l) more.1)
+
 -- where nothing begins, nothing is found
 pub stuck_none : (rest : List ℕ) → Stuck rest → item_of rest ≡ None
 stuck_none rest s = go (item_of rest) refl

@@ -1,9 +1,9 @@
 -- Walking through a text, stretch by stretch. Assumes nothing.
 use Rattle.std.proofs.Common.{◌≡◌, ℕ, suc, ◌+◌, ◌<◌, ◌≤◌, List, [], ◌∷◌, ◌++◌, map, length, drop, Some, None, Option, sym, refl, ap, ◌∙◌, subst, inl, inr, append-nil, arith, length-append, length-drop}
-use Rattle.std.proofs.lemmas.List.{drop-drop, drop_at, map-append, drop_all}
+use Rattle.std.proofs.lemmas.List.{drop-drop, drop_at, map-append}
 use Rattle.token.specs.declared.token.Lexeme.{Lexeme}
 use Rattle.token.specs.Tokens.{Reserved, let_word, rec_word, and_word, acyclic_word, irreflexive_word, empty_word, flag_word, as_word, Symbol, universe, no_pairs, no_events, inverse, open_round, close_round, open_square, close_square, bar, semicolon, backslash, ampersand, star, tilde, plus, question, equals, Word, name, title, key, sign, keyword, symbol, spelling}
-use Rattle.token.specs.Lexing.{Item, blank, comment, token, spell, spelled, Proper, Reads, tokens, Lexes, Strays}
+use Rattle.token.specs.Lexing.{Item, blank, comment, token, spell, spelled, Proper, Reads, tokens, Strays}
 use Rattle.token.specs.Items.{item_of}
 use Rattle.token.specs.Views.{gap, word, wrong, parted, lexeme_view}
 use Rattle.token.proofs.Never.{no_way}
@@ -142,10 +142,6 @@ pub walked_word : (text : List ℕ) (at : ℕ) (found : List (ℕ × Word)) (v :
 walked_word text at found v n w h =
     let f = word_found (item_of (drop at text)) v n h in
     subst (Onward text at (found ++ ((at, v) ∷ []))) f.1 (walked_more text at found (token v) w f.0)
-
--- the walk is over
-pub walked_over : (text : List ℕ) (at : ℕ) (found : List (ℕ × Word)) → Walked text at found → length text ≤ at → Lexes text found
-walked_over text at found w l = record { items = w.items; reads = subst (Reads text w.items) (drop_all at text l) w.reads; are = w.are }
 
 -- where nothing is found, nothing begins
 none_begins : (rest : List ℕ) → item_of rest ≡ None → (i : Item) (more : List ℕ) → rest ≡ spell i ++ more → Proper i more → ⊥

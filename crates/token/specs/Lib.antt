@@ -3,4 +3,5 @@ pub mod Tokens
 pub mod Lexing
 pub mod Items
 pub mod Views
+pub mod Walking
 pub mod Lexings

@@ -1,8 +1,5 @@
 -- What the code's tokens and pieces stand for, without pointers. Assumes nothing.
-use Rattle.std.specs.Prelude.{◌≡◌, ℕ, List, [], ◌∷◌, ◌++◌, length, Some, None, Err, Option, Result, Vec, vec_items, MatchResult, ◌≢◌}
-use Rattle.std.specs.declared.alloc.Global.{Global}
-use Rattle.token.specs.declared.fault.ReadFault.{ReadFault}
-use Rattle.token.specs.declared.fault.ReadFault.TheVariants.{TooLong, Stray, TooManyTokens, Memory}
+use Rattle.std.specs.Prelude.{ℕ, length, Some, None, Option}
 use Rattle.token.specs.declared.token.Token.{Token}
 use Rattle.token.specs.declared.token.Token.TheVariants.{Name, Title, Let, Rec, And, Acyclic, Irreflexive, Empty, Flag, As, Universe, NoPairs, NoEvents, Inverse, Open, Close, OpenSquare, CloseSquare, Bar, Semicolon, Backslash, Ampersand, Star, Tilde, Plus, Question, Equals}
 use Rattle.token.specs.declared.token.Lexeme.{Lexeme}
@@ -71,20 +68,3 @@ part (token w) = word w (length (spelling w))
 abbrev pub parted : Option Item → Part
 parted None = wrong
 parted (Some i) = part i
-
--- the lexemes with the token of a piece at a place behind them, if it has one
-abbrev pub Adds : List Lexeme → Option Token → ℕ → List Lexeme → Type 0
-Adds found None place kept = kept ≡ found
-Adds found (Some t) place kept = (length found ≢ 1024) × (kept ≡ found ++ (record { token = t; place = place } ∷ []))
-
--- the piece has a token, and it is the 1,025th, or memory is wanting
-abbrev pub Refuses : List Lexeme → Option Token → ℕ → ReadFault → Type 0
-Refuses found None place fault = ⊥
-Refuses found (Some t) place TooLong = ⊥
-Refuses found (Some t) place (Stray there) = ⊥
-Refuses found (Some t) place (TooManyTokens there) = (length found ≡ 1024) × (place ≡ there)
-Refuses found (Some t) place Memory = Unit {0}
-
--- what comes of a piece: tokens that were kept gain its token, or refuse it; an earlier refusal stays
-abbrev pub Keeps : Result (Vec Lexeme Global) ReadFault → Option Token → ℕ → Result (Vec Lexeme Global) ReadFault → Type 0
-Keeps old t place new = MatchResult old (λ found. MatchResult new (λ kept. Adds (vec_items found) t place (vec_items kept)) (Refuses (vec_items found) t place)) (λ fault. new ≡ Err fault)

@@ -2,11 +2,11 @@
 ghost use Rattle.std.specs.Prelude.{◌≤◌, map, length, Ok, Err, MatchResult};
 ghost use Rattle.token.specs.Items.{Computed};
 ghost use Rattle.token.specs.Lexing.{StuckInWords};
-ghost use Rattle.token.specs.Lexings.{Told, OneLexing};
-ghost use Rattle.token.specs.Views.{lexeme_view, Keeps};
+ghost use Rattle.token.specs.Lexings.{Told, Lexable, OneLexing};
+ghost use Rattle.token.specs.Views.{lexeme_view};
 
 use super::fault::ReadFault;
-use super::piece::{Piece, piece_of};
+use super::pieces::Pieces;
 use super::token::Lexeme;
 use std::alloc::Global;
 
@@ -16,41 +16,35 @@ const BYTES: usize = 8192;
 /// How many tokens a text may have.
 const TOKENS: usize = 1024;
 
-/// The tokens with that of a piece, if it has one; or why it, or one before it, could not be kept.
-fn keep<'a>(
-    found: Result<Vec<Lexeme<'a>>, ReadFault>,
-    piece: Piece<'a>,
-    place: usize,
-) -> Result<Vec<Lexeme<'a>>, ReadFault>
-    ensures { Keeps found.entry piece.entry.token place result }
+/// Refuses a text with its first stray byte.
+fn check(text: &[u8]) -> Result<(), ReadFault>
+    requires { length text.now ≤ 8192 }
+    ensures { MatchResult result (λ _. Lexable text.now) (λ f. Told text.now (Err f)) }
 {
-    let mut found = found?;
-    let Some(token) = piece.token else {
-        return Ok(found);
-    };
-    if found.len() == TOKENS {
-        return Err(ReadFault::TooManyTokens { place });
+    for piece in Pieces::of(text) {
+        piece?;
     }
-    found.push(Lexeme { token, place })?;
-    Ok(found)
+    Ok(())
 }
 
-/// The tokens of a text that is short enough. That one cannot be kept is told only if no byte is stray.
+/// The tokens of a text that is short enough and has no stray byte.
 fn gather<'a>(heap: Global, text: &'a [u8]) -> Result<Vec<Lexeme<'a>>, ReadFault>
-    requires { length text.now ≤ 8192 }
+    requires short { length text.now ≤ 8192 }
+    requires lexable { Lexable text.now }
     ensures { MatchResult result (λ v. Told text.now (Ok (map lexeme_view v.items))) (λ f. Told text.now (Err f)) }
 {
-    let mut found = Ok(Vec::new(heap));
-    let mut place = 0;
-    // The place goes on by the length of a piece, which no iterator of the library does.
-    while place < text.len() {
-        let Some(piece) = piece_of(&text[place..]) else {
-            return Err(ReadFault::Stray { place });
+    let mut found = Vec::new(heap);
+    for piece in Pieces::of(text) {
+        let (place, piece) = piece?;
+        let Some(token) = piece.token else {
+            continue;
         };
-        found = keep(found, piece, place);
-        place += piece.length;
+        if found.len() == TOKENS {
+            return Err(ReadFault::TooManyTokens { place });
+        }
+        found.push(Lexeme { token, place })?;
     }
-    found
+    Ok(found)
 }
 
 /// The tokens of a text, each at its place. Refused with the first listed fault at its lowest place: over 8,192 bytes;
@@ -64,5 +58,6 @@ pub fn lex<'a>(heap: Global, text: &'a [u8]) -> Result<Vec<Lexeme<'a>>, ReadFaul
     if text.len() > BYTES {
         return Err(ReadFault::TooLong);
     }
+    check(text)?;
     gather(heap, text)
 }

@@ -5,6 +5,7 @@ pub mod class;
 pub mod fault;
 pub mod lexer;
 pub mod piece;
+mod pieces;
 pub mod token;
 
 pub use class::{Class, class_of};

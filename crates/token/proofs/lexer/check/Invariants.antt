@@ -1,0 +1,10 @@
+use Rattle.std.proofs.Common.{◌≡◌}
+use Rattle.token.proofs.Walks.{Reached}
+use Rattle.token.proofs.lexer.check.Given as goal
+
+abbrev pub invariant-loop-piece : goal.invariant-loop-piece
+invariant-loop-piece l =
+    (goal.iterator-loop-piece).can_next l.piece-iterator
+    × (goal.iterator-loop-piece).is_finite l.piece-iterator
+    × (l.piece-iterator.text.now ≡ l.text)
+    × Reached l.text l.piece-iterator.at
