@@ -62,6 +62,7 @@ impl From<AllocError> for ModelFault {
     }
 }
 
+// The lexer's faults are cases of their own and do not stand in one: want of memory would stand twice.
 impl From<ReadFault> for ModelFault {
     ghost from_gives = { λ f r. r ≡ of_lexing f };
 

@@ -29,6 +29,7 @@ pub(crate) fn behind_term(mark: Said<usize>) -> usize
 }
 
 impl<'a> Scope<'a> {
+    // No `map` of the mark: to copy the label may want for memory.
     /// The mark of a check, with its label at a token.
     pub(crate) fn labelled(&self, token: usize, mark: Said<usize>) -> Result<Mark, AllocError>
         ensures { IfOk result (λ m. mark_of m ≡ mark_at (tokens_of self.now) token (said_mark mark)) }

@@ -53,7 +53,8 @@ impl<'a> Source<'a> {
         requires sorts { sorts.now ≡ sorts_of (map lexeme_view self.now.lexemes.now) }
         ensures { MatchResult result (λ x. Phrased self.now.text.now (map lexeme_view self.now.lexemes.now) (sentence_of x)) (λ f. Refused self.now.text.now f) }
     {
-        // Not map_err: of a closure that calls a method of self the proof learns nothing, and `returns` stays open.
+        // Not `map_err`: of a closure here that calls a method of self, or a free function of the two slices, what `map_err`
+        // ensures comes to `Unit`, and the goal `returns` of `cat::read::Source::phrase` stays open.
         match sentence::read(heap, sorts) {
             Ok(found) => Ok(found),
             Err(SentenceFault::Memory) => Err(ModelFault::Memory),

@@ -10,6 +10,7 @@ use super::statement::{Binding, Statement};
 use super::term::Term;
 use sentence::sign::Infix;
 
+// No `Range`: its end would be the sum of the two, of which nothing says here that it fits 128 bits.
 /// The numbers of a group's bindings: so many from the first on.
 #[derive(Clone, Copy)]
 struct Span {
