@@ -1,4 +1,5 @@
 pub mod Stays
+pub mod Tables
 pub mod Marks
 pub mod Refused
 pub mod Orderly

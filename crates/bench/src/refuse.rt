@@ -1,25 +1,25 @@
 //! Which refusal of the bench applies to an action, over a table of events.
-ghost use Rattle.std.specs.Prelude.{◌≡◌};
+ghost use Rattle.std.specs.Prelude.{◌≡◌, Some};
 ghost use Rattle.run.specs.Tests.{table_run};
 ghost use Rattle.bench.specs.Tests.{agree, refusal, answer, clashes, bad_number};
 ghost use Rattle.bench.specs.declared.action.Action.TheVariants.{Enter, Tie, Settle};
 
 use super::action::{Action, Entry};
 use super::fault::BenchFault;
-use run::{Event, Rule, RunSource, Snapshot};
+use run::{EVENTS, Event, Rule, RunSource, Snapshot};
 
 /// Whether both agree in location and value.
-fn agree(one: Option<Event>, other: Option<Event>) -> bool
-    ensures { result ≡ agree one other }
+fn agree(one: &Event, other: &Event) -> bool
+    ensures { result ≡ agree (Some one.now) (Some other.now) }
 {
-    one.is_some_and(|e| other.is_some_and(|f| e.same_place(&f) && e.value == f.value))
+    one.same_place(other) && one.value == other.value
 }
 
 /// Whether the number of an entry is above 31 or standing.
 fn bad_number(events: &Snapshot, number: u8) -> bool
     ensures { result ≡ bad_number (table_run events.now.events) number }
 {
-    number > 31 || events.event(number).is_some()
+    number as usize >= EVENTS || events.event(number).is_some()
 }
 
 /// Whether an entry breaks the rule of steps or that of initial writes.
@@ -49,14 +49,13 @@ fn judge_entry(events: &Snapshot, entry: Entry) -> Result<(), BenchFault>
 fn judge_tie(events: &Snapshot, read: u8, write: u8) -> Result<(), BenchFault>
     ensures { result ≡ answer (refusal (table_run events.now.events) (Tie read write)) }
 {
-    let reader = events.event(read);
-    let writer = events.event(write);
-    if !(reader.is_some_and(|e| e.is_read()) && writer.is_some_and(|e| e.is_write())) {
-        Err(BenchFault::NoPair)
-    } else if !agree(reader, writer) {
-        Err(BenchFault::Mismatch)
-    } else {
+    let reader = events.event(read).filter(|event| event.is_read());
+    let writer = events.event(write).filter(|event| event.is_write());
+    let (reader, writer) = reader.zip(writer).ok_or(BenchFault::NoPair)?;
+    if agree(&reader, &writer) {
         Ok(())
+    } else {
+        Err(BenchFault::Mismatch)
     }
 }
 
@@ -64,10 +63,9 @@ fn judge_tie(events: &Snapshot, read: u8, write: u8) -> Result<(), BenchFault>
 fn judge_settling(events: &Snapshot, number: u8) -> Result<(), BenchFault>
     ensures { result ≡ answer (refusal (table_run events.now.events) (Settle number)) }
 {
-    let standing = events.event(number);
-    if !standing.is_some_and(|event| event.is_write()) {
-        Err(BenchFault::NoWrite)
-    } else if standing.is_some_and(|event| events.rivalled(number, &event)) {
+    let standing = events.event(number).filter(|event| event.is_write());
+    let event = standing.ok_or(BenchFault::NoWrite)?;
+    if events.rivalled(number, &event) {
         Err(BenchFault::OtherSettled)
     } else {
         Ok(())

@@ -8,12 +8,14 @@ ghost use Rattle.given.specs.Bonds.{Answers, RowOf, Bonded};
 use relation::Relation;
 use run::{Event, Snapshot};
 
+// The number's bound is asked in a clause: a type of its own would be made for this one call and taken apart here.
 /// The events to which the event at a number passes the test.
 fn row<F: Fn(u8, &Event, &Event) -> bool>(events: &Snapshot, number: usize, test: &F) -> u32
     requires callable { F.IsAlwaysCallable test.now }
     requires within { number < 32 }
     ensures { RowOf (Answers F.Fn test.now) (table_run events.now.events) number result }
 {
+    // With `map_or`, `returns` of given::bond::row stays open: what the inner closure gave is not found to be `Gathered` by the test.
     match events.events[number] {
         None => 0,
         Some(event) => events.gather(|other| test(number as u8, &event, other)),

@@ -125,6 +125,7 @@ impl Snapshot {
         (0..EVENTS as u8).find(|n| self.faulty(rule, *n))
     }
 
+    // Enumerated, filtered and folded, each step would take a pair apart, the fold only to drop its event: no plainer than the loop.
     /// The numbers of the events that pass a test, as a mask: bit n for the event at n.
     pub fn gather<F: Fn(&Event) -> bool>(&self, test: F) -> u32
         requires { F.IsAlwaysCallable test }

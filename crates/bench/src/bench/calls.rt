@@ -39,6 +39,7 @@ impl Bench {
         ensures same { table_run result.events ≡ bench_run self.now }
         ensures kept { Orderly (bench_run self.now) }
     {
+        // The `let` is for must-fail/events_lost.edit: its text has to stand here once, and `self.table` stands in other methods too.
         let events = self.table;
         events
     }
