@@ -1,6 +1,8 @@
 //! Values by their numbers, in a place that the caller lends.
 ghost use Rattle.std.specs.Prelude.{◌≡◌, ◌<◌, ◌≤◌, [], ◌∷◌, ◌++◌, length};
 
+use super::setting::Setting;
+use given::Base;
 use relation::Value;
 use std::marker::Model;
 
@@ -44,6 +46,15 @@ impl Values {
         ensures fits { length result.now ≤ 64 }
     {
         &self.slots[..self.many]
+    }
+
+    /// What terms are evaluated by, where these values are known.
+    pub(crate) fn under<'a>(&'a self, base: &'a Base) -> Setting<'a>
+        ensures base { result.base.now ≡ base.now }
+        ensures known { result.known.now ≡ self.now }
+    {
+        let known = self.as_slice();
+        Setting { base, known }
     }
 
     /// Takes all values out.
