@@ -19,6 +19,7 @@ fn put(found: &[Relation], values: &mut Values)
     }
 }
 
+// The base and the values stay two parameters: the one is read, the other written, and `under` joins them where a term is evaluated.
 /// Puts the values of a statement's bindings behind those that are known: of a let that of its term, of a let rec group its
 /// least solution. What comes past the 64th is left out.
 fn add_statement(base: &Base, statement: &Statement, values: &mut Values)
