@@ -84,6 +84,5 @@ pub fn try_checks(base: &Base, statements: &[Statement], values: &mut Values) ->
     ensures { WithinLimits (statements_of statements.now) → Judged (base_meaning base.now) (statements_of statements.now) result }
 {
     evaluate_bindings(base, statements, values);
-    let known = values.as_slice();
-    try_all(&Setting { base, known }, statements)
+    try_all(&values.under(base), statements)
 }

@@ -71,7 +71,9 @@ impl<E: Equations + Copy> Ascent for Solving<E> {
     fn step(&self) -> Solving<E> {
         let equations = self.equations;
         let mut found = self.found;
-        // By number: while an iterator lends the table, an invariant cannot speak of it.
+        // By number into a copy: a table made by `array::from_fn` over a method took 1.35 µs a round in place of 0.45 with one name, and
+        // 1.85 in place of 0.9 with four (least of 12 runs of 200,000 rounds).
+        // With `iter_mut` the goal `invariant-loop-slot` stayed open: while an iterator lends the table, an invariant cannot speak of it.
         for slot in 0..equations.count() {
             found[slot] = self.found[slot].union(equations.value(&self.found, slot));
         }

