@@ -127,5 +127,7 @@ pub fn class_of(byte: u8) -> Class
     ensures value { class_number result ≡ class byte }
     ensures rule { Classified byte (class_number result) }
 {
-    CLASSES[byte as usize]
+    // By a reference: indexed by its name the table would be laid on the stack anew for each byte.
+    let classes = &CLASSES;
+    classes[byte as usize]
 }
