@@ -1,10 +1,12 @@
 -- Relations compared row by row. Assumes nothing.
-use Rattle.std.specs.Prelude.{◌≡◌, ℕ, ◌^◌, ◌<◌, Bool, List, length, Decides, slice_index}
-use Rattle.std.proofs.Common.{inl, inr, ⊎_elim, arith}
+use Rattle.std.specs.Prelude.{◌≡◌, ℕ, ◌+◌, ◌^◌, ◌<◌, ◌≤◌, Bool, true, ◌&&◌, List, length, Decides, slice_index, refl}
+use Rattle.std.proofs.Common.{sym, subst, inl, inr, ⊎_elim, arith}
 use Rattle.std.proofs.lemmas.List.{ext_get_or}
-use Rattle.std.proofs.lemmas.Bool.Decides.{Decides-like}
+use Rattle.std.proofs.lemmas.Bool.{cases_eq}
+use Rattle.std.proofs.lemmas.Bool.Decides.{Decides-and, Decides-like}
+use Rattle.relation.specs.Sets.{SameEvents}
 use Rattle.relation.specs.Relations.{Union, Difference, SamePairs, Empty}
-use Rattle.relation.specs.Masks.{Related, Shows}
+use Rattle.relation.specs.Masks.{Member, Related, Shows}
 use Rattle.relation.specs.Bits.{bit_cases, same_members}
 
 -- what is not alone in the first relation is in the second
@@ -21,6 +23,30 @@ pairs_decide xs ys r s t u d =
     Decides-like r
     (λ e a b. (shared xs ys a b (λ p. e a b ((u.same a b).1 (inl ((s.same a b).1 p)))), shared ys xs a b (λ p. e a b ((u.same a b).1 (inr ((t.same a b).1 p))))))
     (λ h a b m. ⊎_elim (λ p. let q = (s.same a b).0 p in q.1 ((h a b).0 q.0)) (λ p. let q = (t.same a b).0 p in q.1 ((h a b).1 q.0)) ((u.same a b).0 m))
+    d
+
+-- the rows below n have the same events
+abbrev pub AlikeBelow : ℕ → List ℕ → List ℕ → Type 0
+AlikeBelow n xs ys = (a : ℕ) → a < n → SameEvents (Member (slice_index xs a)) (Member (slice_index ys a))
+
+-- with no row compared
+pub alike_none : (xs ys : List ℕ) → Decides true (AlikeBelow 0 xs ys)
+alike_none xs ys = (λ _ a l. absurd (omega arith), λ _. refl)
+
+-- after one more row
+pub alike_more : (n : ℕ) (xs ys : List ℕ) (t r : Bool) → Decides r (AlikeBelow n xs ys) → Decides t (SameEvents (Member (slice_index xs n)) (Member (slice_index ys n))) → Decides (t && r) (AlikeBelow (n + 1) xs ys)
+alike_more n xs ys t r d e =
+    Decides-like (t && r)
+    (λ h a l. ⊎_elim (λ same. subst (λ k. SameEvents (Member (slice_index xs k)) (Member (slice_index ys k))) (sym same) h.0) (λ ne. h.1 a (omega arith)) (cases_eq a n))
+    (λ h. (h n (omega arith), λ a l. h a (omega arith)))
+    (Decides-and t r e d)
+
+-- with every row compared
+pub alike_done : (n : ℕ) (xs ys : List ℕ) (r : Bool) → 32 ≤ n → n ≤ 32 → Decides r (AlikeBelow n xs ys) → Decides r (SamePairs (Related xs) (Related ys))
+alike_done n xs ys r l u d =
+    Decides-like r
+    (λ h a b. (λ p. record { within = p.within; there = (h a (omega (arith, p.within)) b).0 p.there }, λ p. record { within = p.within; there = (h a (omega (arith, p.within)) b).1 p.there }))
+    (λ h a k b. (λ m. ((h a b).0 (record { within = omega arith; there = m })).there, λ m. ((h a b).1 (record { within = omega arith; there = m })).there))
     d
 
 -- rows that fit are the same where they relate the same
