@@ -4,5 +4,6 @@ pub mod Copies
 pub mod Rules
 pub mod Gathering
 pub mod Searching
+pub mod Links
 pub mod Same
 pub mod Examined

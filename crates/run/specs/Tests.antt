@@ -1,6 +1,8 @@
 -- The rules as tests that compute, for the code. proofs/Rules shows that each test decides its rule. Assumes nothing.
 use Rattle.std.specs.Prelude.{◌≡◌, ℕ, zero, suc, ◌<◌, Bool, true, false, not, ◌&&◌, ◌||◌, List, is_some, Some, None, Option, ◌==◌, nat_le, slice_index_or}
 use Rattle.run.specs.declared.event.Event.{Event}
+use Rattle.run.specs.declared.link.Link.{Link}
+use Rattle.run.specs.declared.link.Link.TheVariants.{SameStep, Twin, Source, OtherSettled, OtherWrite, Origin}
 use Rattle.run.specs.declared.rule.Rule.{Rule}
 use Rattle.run.specs.declared.rule.Rule.TheVariants.{Ranges, Steps, Initials, Sources, Settlings, Initialised, Tied}
 use Rattle.run.specs.Runs.{Run, shown, without}
@@ -56,6 +58,24 @@ same_step e f = e.thread == f.thread && e.step == f.step
 -- a write of the location and value of the event e
 abbrev pub supplies : Event → Event → Bool
 supplies e f = is_write f && (same_place f e && f.value == e.value)
+
+-- the event's source is at this number
+abbrev pub sourced_at : Option ℕ → ℕ → Bool
+sourced_at None m = false
+sourced_at (Some w) m = m == w
+
+-- how the event f at m stands to the event e at n
+abbrev pub linked : Link → ℕ → Event → ℕ → Event → Bool
+linked SameStep n e m f = not (m == n) && (f.thread == e.thread && f.step == e.step)
+linked Twin n e m f = not (m == n) && (is_initial f && same_place f e)
+linked Source n e m f = sourced_at e.source m && (is_write f && (same_place f e && f.value == e.value))
+linked OtherSettled n e m f = not (m == n) && (is_write f && (f.settled && same_place f e))
+linked OtherWrite n e m f = not (m == n) && (is_write f && same_place f e)
+linked Origin n e m f = is_initial f && same_place f e
+
+-- some standing event stands so to the event e at n
+abbrev pub some_linked : Link → Run → ℕ → Event → Bool
+some_linked link run n e = any_below (λ m. holds (run m) (linked link n e m)) 32
 
 -- some standing event passes a test
 abbrev pub some : Run → (Event → Bool) → Bool

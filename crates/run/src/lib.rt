@@ -2,6 +2,7 @@
 #![tactic(auto)]
 
 pub mod event;
+pub mod link;
 pub mod rule;
 pub mod snapshot;
 pub mod sound;
@@ -9,6 +10,7 @@ pub mod source;
 pub mod window;
 
 pub use event::{Event, Kind, LOCATIONS};
+pub use link::Link;
 pub use rule::{Breach, Rule};
 pub use snapshot::{EVENTS, Snapshot};
 pub use sound::soundness;

@@ -4,9 +4,10 @@ ghost use Rattle.std.specs.Fn.{FnReturnsAt};
 ghost use Rattle.run.specs.Runs.{Run, shown, nothing, without};
 ghost use Rattle.run.specs.Masks.{Gathered};
 ghost use Rattle.run.specs.Searches.{Searched};
-ghost use Rattle.run.specs.Tests.{table_run, holds, rivalled, misplaced, ill_sourced, broken, faulty, Lowest};
+ghost use Rattle.run.specs.Tests.{table_run, holds, some_linked, rivalled, misplaced, ill_sourced, broken, faulty, Lowest};
 
 use super::event::Event;
+use super::link::Link;
 use super::rule::Rule;
 use super::source::RunSource;
 
@@ -64,6 +65,24 @@ impl Snapshot {
             n,
             |other| other.is_write() && other.settled && other.same_place(event),
         )
+    }
+
+    /// Whether some event stands so to the event at `n`.
+    pub fn some_linked(&self, link: Link, n: u8, event: &Event) -> bool
+        ensures { result ≡ some_linked link (table_run self.now.events) n event.now }
+    {
+        match link {
+            Link::SameStep => self.some_other(n, |other| other.same_step(event)),
+            Link::Twin => self.some_other(n, |other| other.is_initial() && other.same_place(event)),
+            Link::Source => event.source.is_some_and(|write| {
+                self.event(write).is_some_and(|found| found.supplies(event))
+            }),
+            Link::OtherSettled => self.rivalled(n, event),
+            Link::OtherWrite => {
+                self.some_other(n, |other| other.is_write() && other.same_place(event))
+            }
+            Link::Origin => self.some(|other| other.is_initial() && other.same_place(event)),
+        }
     }
 
     /// Whether the event is settled though it is no write, or not the only settled one of its location.
