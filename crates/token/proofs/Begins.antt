@@ -1,17 +1,13 @@
 -- One stretch begins a text, and the code finds it. Assumes nothing.
-use Rattle.std.proofs.Common.{◌≡◌, ℕ, ◌+◌, Bool, true, false, cond, ◌&&◌, eqb, leb, List, [], ◌∷◌, ◌++◌, map, length, get_or, take, find, Some, None, Option, sym, refl, ap, ◌∙◌, subst, inl, inr, append_assoc, arith, Bor}
-use Rattle.std.specs.Option.{option_map_or}
+use Rattle.std.proofs.Common.{◌≡◌, ℕ, ◌+◌, Bool, true, false, cond, ◌&&◌, eqb, leb, List, [], ◌∷◌, ◌++◌, length, get_or, take, Some, None, Option, sym, refl, ap, ◌∙◌, subst, inl, inr, append_assoc, arith}
 use Rattle.std.specs.Str.{bytes_eq}
 use Rattle.std.proofs.lemmas.Slice.Eq.{bytes_eq-Decides}
 use Rattle.std.proofs.lemmas.List.{take_at}
 use Rattle.std.proofs.lemmas.Bool.{eqb-true, eqb-false, ne_eqb, and_parts, cond_both, leb-true}
-use Rattle.token.specs.declared.token.Token.{Token}
-use Rattle.token.specs.declared.token.Token.TheVariants.{Name}
 use Rattle.token.specs.Classes.{Blank, Letter, GoesOn, class}
 use Rattle.token.specs.Tokens.{Reserved, let_word, rec_word, and_word, acyclic_word, irreflexive_word, empty_word, flag_word, as_word, Symbol, universe, no_pairs, no_events, inverse, open_round, close_round, open_square, close_square, bar, semicolon, backslash, ampersand, star, tilde, plus, question, equals, Word, name, title, key, sign, keyword, symbol, spelling}
 use Rattle.token.specs.Lexing.{Item, blank, comment, token, spell, Every, Closes, Formed, Stops, Apart, Proper}
-use Rattle.token.specs.Items.{run, quote_from, end_from, beside, word_of, titled, commented, when, single, opened, signed, begun, item_of}
-use Rattle.token.specs.Views.{view}
+use Rattle.token.specs.Items.{run, quote_from, end_from, word_of, titled, commented, when, single, opened, signed, begun, item_of}
 use Rattle.token.proofs.Never.{no_way, stays_false}
 use Rattle.token.proofs.Classes.{classified}
 use Rattle.token.proofs.Items.{run_counts, Run, run_splits, quote_found, Quoted, quote_splits, end_found, Ended, end_splits}
@@ -47,26 +43,15 @@ key_word empty_word = refl
 key_word flag_word = refl
 key_word as_word = refl
 
--- an entry of the table of reserved words
-abbrev pub Entry : Type 0
-Entry = Bor (List ℕ) × Token
+-- the same, told by the test
+pub word_is : (bytes : List ℕ) (k : Reserved) → true ≡ bytes_eq bytes (keyword k) → key k ≡ word_of bytes
+word_is bytes k h = sym (ap word_of ((bytes_eq-Decides bytes (keyword k)).0 (sym h)) ∙ key_word k)
 
--- the first of a table's entries with some bytes is what stands beside them
-pub found_beside : (bytes : Bor (List ℕ)) (table : List Entry) →
-    view (option_map_or (λ (e : Entry). e.1) (find (λ (e : Entry). bytes_eq bytes.now e.0.now) table) (Name bytes)) ≡ beside bytes.now (map (λ (e : Entry). (e.0.now, view e.1)) table)
-unfolding beside
-found_beside bytes [] = refl
-found_beside bytes (e ∷ more) = go (bytes_eq bytes.now e.0.now) (found_beside bytes more)
-  where
-    rest : Option Entry
-    rest = find (λ (e : Entry). bytes_eq bytes.now e.0.now) more
-
-    later : Word
-    later = beside bytes.now (map (λ (e : Entry). (e.0.now, view e.1)) more)
-
-    go : (b : Bool) → view (option_map_or (λ (e : Entry). e.1) rest (Name bytes)) ≡ later → view (option_map_or (λ (e : Entry). e.1) (cond b (Some e) rest) (Name bytes)) ≡ cond b (view e.1) later
-    go true h = refl
-    go false h = h
+pub word_none : (bytes : List ℕ) → false ≡ bytes_eq bytes (keyword let_word) → false ≡ bytes_eq bytes (keyword rec_word) → false ≡ bytes_eq bytes (keyword and_word) →
+    false ≡ bytes_eq bytes (keyword acyclic_word) → false ≡ bytes_eq bytes (keyword irreflexive_word) → false ≡ bytes_eq bytes (keyword empty_word) → false ≡ bytes_eq bytes (keyword flag_word) →
+    false ≡ bytes_eq bytes (keyword as_word) → name bytes ≡ word_of bytes
+unfolding word_of
+word_none bytes a b c d e f g h = rw (← a, ← b, ← c, ← d, ← e, ← f, ← g, ← h) refl
 
 -- a word's bytes, with nothing behind them with which it would go on
 word_begins : (bytes more : List ℕ) → Letter (get_or bytes 0 0) → Every GoesOn bytes → Stops more → item_of (bytes ++ more) ≡ Some (token (word_of bytes))

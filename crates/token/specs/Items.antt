@@ -24,11 +24,6 @@ unfoldable pub end_from : ℕ → List ℕ → Option ℕ
 end_from at [] = None
 end_from at (b ∷ rest) = cond (b == 42 && slice_index rest 0 == 41) (Some at) (end_from (at + 1) rest)
 
--- the word beside some bytes in a list, or their name
-unfoldable pub beside : List ℕ → List (List ℕ × Word) → Word
-beside bytes [] = name bytes
-beside bytes (e ∷ more) = cond (bytes_eq bytes e.0) e.1 (beside bytes more)
-
 -- a reserved word, or a name
 unfoldable pub word_of : List ℕ → Word
 word_of bytes =

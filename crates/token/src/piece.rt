@@ -1,6 +1,7 @@
 //! Pieces: what stands at the beginning of the rest of a text.
-ghost use Rattle.std.specs.Prelude.{◌≡◌, ◌&&◌, not, map, take, position, Some, ◌==◌, slice_index};
-ghost use Rattle.token.specs.Items.{goes_on, run, quote_from, end_from, beside, word_of, titled, commented, when, single, opened, signed, item_of};
+ghost use Rattle.std.specs.Prelude.{◌≡◌, ◌&&◌, not, take, position, Some, ◌==◌, slice_index};
+ghost use Rattle.std.specs.Str.{bytes_eq};
+ghost use Rattle.token.specs.Items.{goes_on, run, quote_from, end_from, word_of, titled, commented, when, single, opened, signed, item_of};
 ghost use Rattle.token.specs.Lexing.{token};
 ghost use Rattle.token.specs.Tokens.{no_events, inverse};
 ghost use Rattle.token.specs.Views.{view, gap, word, token_view, piece_view, parted};
@@ -63,33 +64,37 @@ fn comment_end(text: &[u8]) -> Option<usize>
     text.windows(2).position(|pair| pair == b"*)".as_slice())
 }
 
-/// The reserved words with their tokens.
-const RESERVED: [(&[u8], Token<'static>); 8] = [
-    (b"let", Token::Let),
-    (b"rec", Token::Rec),
-    (b"and", Token::And),
-    (b"acyclic", Token::Acyclic),
-    (b"irreflexive", Token::Irreflexive),
-    (b"empty", Token::Empty),
-    (b"flag", Token::Flag),
-    (b"as", Token::As),
-];
-
-/// The token beside some bytes in a table, or their name.
-fn beside<'a>(table: &[(&[u8], Token<'a>)], bytes: &'a [u8]) -> Token<'a>
-    ensures { view result ≡ beside bytes.now (map (λ e. (e.0.now, view e.1)) table.entry.now) }
+/// Whether two stretches of bytes are the same.
+fn is(bytes: &[u8], word: &[u8]) -> bool
+    ensures { result ≡ bytes_eq bytes.now word.now }
 {
-    table
-        .iter()
-        .find(|entry| bytes == entry.0)
-        .map_or(Token::Name(bytes), |entry| entry.1)
+    bytes == word
 }
 
+// A chain of tests and no table: each length is known, where a search of a table took twice as long on short names.
 /// The reserved word that is so written, or the name.
 fn word_of<'a>(bytes: &'a [u8]) -> Token<'a>
     ensures { view result ≡ word_of bytes.now }
 {
-    beside(&RESERVED, bytes)
+    if is(bytes, b"let") {
+        Token::Let
+    } else if is(bytes, b"rec") {
+        Token::Rec
+    } else if is(bytes, b"and") {
+        Token::And
+    } else if is(bytes, b"acyclic") {
+        Token::Acyclic
+    } else if is(bytes, b"irreflexive") {
+        Token::Irreflexive
+    } else if is(bytes, b"empty") {
+        Token::Empty
+    } else if is(bytes, b"flag") {
+        Token::Flag
+    } else if is(bytes, b"as") {
+        Token::As
+    } else {
+        Token::Name(bytes)
+    }
 }
 
 /// A word: a name or a reserved word.
