@@ -1,16 +1,26 @@
 -- A written record is short enough to be read. Assumes nothing.
-use Rattle.std.proofs.Common.{ℕ, zero, suc, ◌+◌, ◌*◌, ◌≤◌, List, [], ◌∷◌, ◌++◌, length, Some, None, Option, arith, length-append}
+use Rattle.std.proofs.Common.{ℕ, zero, suc, ◌+◌, ◌*◌, ◌≤◌, List, [], ◌∷◌, ◌++◌, length, sum_by, Some, None, Option, arith, length-append}
+use Rattle.std.proofs.lemmas.List.Sums.{sum_by-le}
 use Rattle.bench.specs.declared.action.Action.{Action}
 use Rattle.bench.specs.declared.action.Action.TheVariants.{Enter, Tie, Settle}
 use Rattle.run.specs.Runs.{Run}
 use Rattle.record.specs.Format.{spell, spelled, end}
-use Rattle.record.specs.Writing.{Stage, Entries, Ties, Settlings, call_of, also, calls_below, written, record_bytes}
+use Rattle.record.specs.Writing.{Stage, Entries, Ties, Settlings, call_of, also, calls_below, written, record_bytes, call_bytes}
 
 -- a call's field has at most 12 bytes
 pub spell_short : (a : Action) → length (spell a) ≤ 12
 spell_short (Enter x) = omega arith
 spell_short (Tie r w) = omega arith
 spell_short (Settle n) = omega arith
+
+-- the field of a call, if there is one, has at most 12 bytes
+call_short : (c : Option Action) → length (call_bytes c) ≤ 12
+call_short None = omega arith
+call_short (Some a) = spell_short a
+
+-- so the fields of 96 calls have at most 1,152
+pub fields_short : (calls : List (Option Action)) → length calls ≤ 96 → sum_by (λ call. length (call_bytes call)) calls ≤ 1152
+fields_short calls few = omega (arith, sum_by-le (λ call. length (call_bytes call)) 12 calls (λ k d l. call_short _))
 
 -- and the fields of calls at most 12 for each
 pub spelled_short : (calls : List Action) → length (spelled calls) ≤ 12 * length calls

@@ -1,5 +1,5 @@
 -- A record written stage by stage. Assumes nothing.
-use Rattle.std.proofs.Common.{◌≡◌, ℕ, ◌+◌, ◌<◌, List, ◌++◌, length, take, drop, get_or, sum_by, None, Ok, Option, sym, ap, ◌∙◌, subst, arith, length-append}
+use Rattle.std.proofs.Common.{◌≡◌, ℕ, ◌+◌, ◌<◌, List, [], ◌∷◌, ◌++◌, length, take, drop, get_or, sum_by, None, Ok, Option, sym, refl, ap, ◌∙◌, subst, arith, length-append}
 use Rattle.std.specs.List.{flat_map}
 use Rattle.std.proofs.lemmas.List.{get_or_past}
 use Rattle.std.proofs.lemmas.List.Concat.{length-flat_map}
@@ -23,6 +23,14 @@ record_of events run stages calls all is same = ap (λ l. flat_map call_bytes l 
 -- so many bytes it has
 pub record_size : (run : Run) (calls : List (Option Action)) (size : ℕ) → flat_map call_bytes calls ++ end ≡ record_bytes run → size ≡ sum_by (λ call. length (call_bytes call)) calls → size + 3 ≡ length (record_bytes run)
 record_size run calls size is sum = omega (arith, length-flat_map call_bytes calls, length-append (flat_map call_bytes calls) end, ap length is, sum)
+
+-- three stages, one behind another, are those at the places 0, 1 and 2: so it does not matter how a list of their calls is made
+pub three_stages : (stages : List (List (Option Action))) → length stages ≡ 3 → flat_map (λ stage. stage) stages ≡ get_or stages 0 [] ++ (get_or stages 1 [] ++ (get_or stages 2 [] ++ []))
+three_stages [] long = absurd (omega arith)
+three_stages (a ∷ []) long = absurd (omega arith)
+three_stages (a ∷ b ∷ []) long = absurd (omega arith)
+three_stages (a ∷ b ∷ c ∷ []) long = refl
+three_stages (a ∷ b ∷ c ∷ d ∷ more) long = absurd (omega arith)
 
 -- one field more behind those of the first calls
 pub placed_more : (before mid after : List ℕ) (calls : List (Option Action)) (i at next : ℕ) → i < length calls → Placed before 0 (flat_map call_bytes (take i calls)) at mid →

@@ -74,7 +74,8 @@ fn put_all(out: &mut [u8], calls: &[Option<Action>]) -> usize
 /// How many bytes the fields of calls have.
 fn size_of_all(calls: &[Option<Action>]) -> usize
     requires { length calls.now ≤ 96 }
-    ensures { result ≡ sum_by (λ call. length (call_bytes call)) calls.now }
+    ensures size { result ≡ sum_by (λ call. length (call_bytes call)) calls.now }
+    ensures short { result ≤ 1152 }
 {
     calls.iter().map(|call| call.map_or(0, size)).sum()
 }
