@@ -28,6 +28,7 @@ fn labelled(flag: bool, at: usize) -> Mark<usize>
 
 impl<'a> Parser<'a> {
     /// The place behind a sort of this role, which has to stand at a place.
+    #[inline(always)]
     fn behind(self, place: usize, role: Role) -> Result<usize, SentenceFault>
         ensures stands { IfOk result (λ k. StandsAt self.entry.sorts.now place role × (k ≡ place + 1)) }
         ensures lacks { IfErr result (λ f. (¬ StandsAt self.entry.sorts.now place role) × (f ≡ Place place)) }
