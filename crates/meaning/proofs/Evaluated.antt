@@ -1,12 +1,13 @@
 -- The value of a term by its shape, and names by their numbers. Assumes nothing.
-use Rattle.std.specs.Prelude.{◌≡◌, ℕ, zero, suc, ◌-◌, ◌<◌, ◌≤◌, List, [], ◌∷◌, ◌++◌, map, length, get_or, slice_index_or}
-use Rattle.std.proofs.Common.{◌∙◌, ap, subst, arith}
+use Rattle.std.specs.Prelude.{◌≡◌, ℕ, zero, suc, ◌-◌, ◌<◌, ◌≤◌, List, [], ◌∷◌, ◌++◌, map, length, get_or, slice_index_or, refl}
+use Rattle.std.proofs.Common.{◌∙◌, ap, subst, ⊎_elim, arith}
 use Rattle.std.proofs.Math.Path.{subst⁻¹}
-use Rattle.std.proofs.lemmas.List.{length-map}
+use Rattle.std.proofs.lemmas.List.{length-map, get_or_past}
+use Rattle.std.proofs.lemmas.Bool.{cases_lt}
 use Rattle.relation.specs.declared.relation.Relation.{Relation}
 use Rattle.relation.specs.declared.value.Value.{Value}
 use Rattle.relation.specs.Relations.{Never}
-use Rattle.meaning.specs.Rising.{never}
+use Rattle.meaning.specs.Rising.{never, past_at}
 use Rattle.relation.specs.Masks.{Related, Shows}
 use Rattle.relation.specs.Values.{Meaning, of_pairs, Means}
 use Rattle.term.specs.declared.term.Given.{Given}
@@ -32,10 +33,10 @@ meaning_same base ns ms h (joined k i l r) =
     infixed_same i (meaning base ns l) (meaning base ms l) (meaning base ns r) (meaning base ms r) (meaning_same base ns ms h l) (meaning_same base ns ms h r)
 
 -- a name that is known
-pub known_at : (v : Value) (vs : List Value) (ms : List Meaning) (i : ℕ) → i < length vs → v ≡ slice_index_or vs i v → Means v (slice_index_or (map value_meaning vs ++ ms) i never)
-known_at v [] ms i l e = absurd (omega arith)
-known_at v (w ∷ vs) ms zero l e = subst (λ u. Means v (value_meaning u)) e (means_self v)
-known_at v (w ∷ vs) ms (suc i) l e = known_at v vs ms i (omega arith) e
+pub known_at : (vs : List Value) (ms : List Meaning) (i : ℕ) (d : Value) → i < length vs → Means (slice_index_or vs i d) (slice_index_or (map value_meaning vs ++ ms) i never)
+known_at [] ms i d l = absurd (omega arith)
+known_at (v ∷ vs) ms zero d l = means_self v
+known_at (v ∷ vs) ms (suc i) d l = known_at vs ms i d (omega arith)
 
 -- a name behind those that are known
 pub append_at : (xs ys : List Meaning) (i : ℕ) → length xs ≤ i → slice_index_or (xs ++ ys) i never ≡ slice_index_or ys (i - length xs) never
@@ -43,20 +44,35 @@ append_at [] ys i l = ap (λ k. get_or ys k never) (let z : i ≡ i - 0 = omega 
 append_at (x ∷ xs) ys zero l = absurd (omega arith)
 append_at (x ∷ xs) ys (suc i) l = append_at xs ys i (omega arith) ∙ ap (λ k. get_or ys k never) (let z : i - length xs ≡ suc i - suc (length xs) = omega arith in z)
 
--- a relation that is found, or past those that are, one that shows nothing
-found_at : (rs : List Relation) (n : ℕ) (d : Relation) → Shows d.rows Never → Same (relation_meaning (slice_index_or rs n d)) (slice_index_or (map relation_meaning rs) n never)
-found_at [] n d s = s.same
-found_at (r ∷ rs) zero d s = same_self (relation_meaning r)
-found_at (r ∷ rs) (suc n) d s = found_at rs n d s
+-- a relation that is found
+pub found_at : (rs : List Relation) (n : ℕ) (d : Relation) → n < length rs → slice_index_or (map relation_meaning rs) n never ≡ relation_meaning (slice_index_or rs n d)
+found_at [] n d l = absurd (omega arith)
+found_at (r ∷ rs) zero d l = refl
+found_at (r ∷ rs) (suc n) d l = found_at rs n d (omega arith)
+
+-- the value of a relation that is found
+pub found_means : (v : Value) (vs : List Value) (rs : List Relation) (i : ℕ) (d : Relation) → length vs ≤ i → i - length vs < length rs → Means v (relation_meaning (slice_index_or rs (i - length vs) d)) → Means v (slice_index_or (map value_meaning vs ++ map relation_meaning rs) i never)
+found_means v vs rs i d l k h =
+    let e = length-map vs value_meaning in
+    subst⁻¹ (Means v)
+    (append_at (map value_meaning vs) (map relation_meaning rs) i (omega (arith, e)) ∙ ap (λ n. get_or (map relation_meaning rs) (i - n) never) e ∙ found_at rs (i - length vs) d k)
+    h
+
+-- the value of a name that is neither
+pub nothing_means : (v : Value) {rows : List ℕ} (vs : List Value) (rs : List Relation) (i : ℕ) → length vs ≤ i → length rs ≤ i - length vs → Means v (of_pairs (Related rows)) → Shows rows Never → Means v (slice_index_or (map value_meaning vs ++ map relation_meaning rs) i never)
+nothing_means v vs rs i l k h s =
+    let e = length-map vs value_meaning in
+    subst⁻¹ (Means v)
+    (append_at (map value_meaning vs) (map relation_meaning rs) i (omega (arith, e)) ∙ ap (λ n. get_or (map relation_meaning rs) (i - n) never) e ∙ past_at (map relation_meaning rs) (i - length vs) (omega (arith, length-map rs relation_meaning)))
+    (pairs_made v Never Never h s (λ a b. (λ x. x, λ x. x)))
 
 -- the value of a name behind those that are known
-pub found_means : (v : Value) (vs : List Value) (rs : List Relation) (i : ℕ) (d : Relation) → length vs ≤ i → Shows d.rows Never → Means v (relation_meaning (slice_index_or rs (i - length vs) d)) → Means v (slice_index_or (map value_meaning vs ++ map relation_meaning rs) i never)
-found_means v vs rs i d l s h =
-    let e = length-map vs value_meaning in
-    let names = map relation_meaning rs in
-    means_as v (relation_meaning (slice_index_or rs (i - length vs) d)) (slice_index_or (map value_meaning vs ++ names) i never) h
-    (subst⁻¹ (Same (relation_meaning (slice_index_or rs (i - length vs) d))) (append_at (map value_meaning vs) names i (omega (arith, e)) ∙ ap (λ n. get_or names (i - n) never) e)
-    (found_at rs (i - length vs) d s))
+pub behind_means : (v : Value) (vs : List Value) (rs : List Relation) (i : ℕ) (d : Relation) → length vs ≤ i → Shows d.rows Never → Means v (relation_meaning (slice_index_or rs (i - length vs) d)) → Means v (slice_index_or (map value_meaning vs ++ map relation_meaning rs) i never)
+behind_means v vs rs i d l s h =
+    ⊎_elim
+    (λ k. found_means v vs rs i d l k h)
+    (λ k. nothing_means v {rows = d.rows} vs rs i l k (subst (λ r. Means v (relation_meaning r)) (get_or_past rs (i - length vs) d k) h) s)
+    (cases_lt (i - length vs) (length rs))
 
 module _ (base : Base) (names : List Meaning) (r : Value) {u : Term} where
   -- the term is known by its shape

@@ -188,6 +188,10 @@ added_let base b old new v push m fine few =
     subst⁻¹ (λ xs. AllMean xs (K ++ meaning (base_meaning base) K b.term ∷ [])) (push (omega (arith, few)))
     (mean_push old K v (meaning (base_meaning base) K b.term) (mean_self old) (subst (λ ks. Means v (meaning (base_meaning base) ks b.term)) (append-nil K) m))
 
+-- past the 64th none is
+pub full_let : (base : given_base.Base) (b : Binding) {s : Statement} (values : List Value) → s ≡ lets b → 64 ≤ length values → Added base s values values
+full_let base b values e l = subst⁻¹ (λ s. Added base s values values) e (λ fine few. absurd (omega (arith, l, few)))
+
 -- a group is added
 pub added_group : (base : given_base.Base) (bs : List Binding) (old new : List Value) (found : List Relation) (count : ℕ) → count ≡ min (length bs) 64 → Least (record { base = base; known = old; bindings = bs }) found → Putting old new (take count found) → Added base (groups bs) old new
 added_group base bs old new found count c s put fine few =

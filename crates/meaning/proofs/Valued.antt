@@ -10,7 +10,7 @@ use Rattle.relation.specs.declared.relation.Relation.{Relation}
 use Rattle.relation.specs.declared.value.Value.{Value}
 use Rattle.relation.specs.Relations.{Pairs, Never, SamePairs}
 use Rattle.relation.specs.Masks.{Related, Shows}
-use Rattle.relation.specs.Values.{Meaning, of_pairs, Means}
+use Rattle.relation.specs.Values.{of_pairs, Means}
 use Rattle.term.specs.Statements.{Binding}
 use Rattle.given.specs.Bases.{Same, base_meaning}
 use Rattle.meaning.specs.Operators.{pairs_of}
@@ -18,9 +18,9 @@ use Rattle.meaning.specs.Meanings.{meaning}
 use Rattle.meaning.specs.Groups.{as_meanings}
 use Rattle.meaning.specs.Tables.{value_meaning, relation_meaning}
 use Rattle.meaning.specs.Systems.{System, Table, before, names, Body, slots}
-use Rattle.meaning.specs.Sameness.{same_self, same_trans, pairs_same}
+use Rattle.meaning.specs.Sameness.{same_trans, pairs_same}
 use Rattle.meaning.proofs.Operated.{means_same}
-use Rattle.meaning.specs.Rising.{never, past_at, path_same, length_names}
+use Rattle.meaning.specs.Rising.{never, past_at, path_same, length_names, behind_same}
 use Rattle.meaning.specs.Solved.{no_rows, table_past}
 use Rattle.meaning.proofs.Evaluated.{meaning_same}
 use Rattle.meaning.proofs.Placed.{at_only, at_below}
@@ -61,12 +61,6 @@ front_names found bs c long e j =
     (past_at (map relation_meaning (take c found)) j (omega (arith, length-map (take c found) relation_meaning, length-take c found))
     ∙ sym (past_at (as_meanings (Table found) 0 bs) j (omega (arith, length_names (Table found) 0 bs)))))
     (cases_lt j (length bs))
-
--- behind the same meanings
-behind_same : (ks xs ys : List Meaning) → ((j : ℕ) → Same (get_or xs j never) (get_or ys j never)) → (i : ℕ) → Same (get_or (ks ++ xs) i never) (get_or (ks ++ ys) i never)
-behind_same [] xs ys h i = h i
-behind_same (k ∷ ks) xs ys h zero = same_self k
-behind_same (k ∷ ks) xs ys h (suc i) = behind_same ks xs ys h i
 
 -- the value of a binding's term is what its equation gives
 pub value_body : (s : System) (found : List Relation) (c j : ℕ) (x : Binding) (v : Value) {rows : List ℕ} → length found ≡ 64 → c ≡ slots s → At s.bindings j x → Means v (meaning (base_meaning s.base) (before s ++ map relation_meaning (take c found)) x.term) → SamePairs (Related rows) (pairs_of (value_meaning v)) → SamePairs (Related rows) (Body s (Table found) j)

@@ -108,6 +108,11 @@ behind_below [] xs ys h i = h i
 behind_below (k ∷ ks) xs ys h zero = below_self k
 behind_below (k ∷ ks) xs ys h (suc i) = behind_below ks xs ys h i
 
+pub behind_same : (ks xs ys : List Meaning) → ((j : ℕ) → Same (slice_index_or xs j never) (slice_index_or ys j never)) → (i : ℕ) → Same (slice_index_or (ks ++ xs) i never) (slice_index_or (ks ++ ys) i never)
+behind_same [] xs ys h i = h i
+behind_same (k ∷ ks) xs ys h zero = same_self k
+behind_same (k ∷ ks) xs ys h (suc i) = behind_same ks xs ys h i
+
 -- among the same meanings
 among_same : (ks xs ys : List Meaning) (i : ℕ) → i < length ks → Same (slice_index_or (ks ++ xs) i never) (slice_index_or (ks ++ ys) i never)
 among_same [] xs ys i l = absurd (omega arith)

@@ -1,7 +1,7 @@
 -- The order and the sameness of meanings, and that the operators keep both. Assumes nothing.
 use Rattle.std.specs.Prelude.{◌≡◌, ℕ, true, refl}
 use Rattle.std.proofs.Common.{inl, inr, ⊎_elim}
-use Rattle.relation.specs.Sets.{Events}
+use Rattle.relation.specs.Sets.{Events, SameEvents}
 use Rattle.relation.specs.Relations.{Inside, SamePairs}
 use Rattle.relation.specs.Values.{Meaning, of_events, of_pairs}
 use Rattle.relation.specs.Steps.{path_within}
@@ -129,6 +129,9 @@ outside_same U m n h = below_same (outside U m) (outside U n) (outside_below U m
 
 pub tested_same : (m n : Meaning) → Same m n → Same (tested m) (tested n)
 tested_same m n h = below_same (tested m) (tested n) (tested_below m n (same_below m n h)) (tested_below n m (same_above m n h))
+
+pub events_same : (m n : Meaning) → Same m n → SameEvents (events_of m) (events_of n)
+events_same m n h k = (events_below m n (same_below m n h) k, events_below n m (same_above m n h) k)
 
 pub pairs_same : (m n : Meaning) → Same m n → SamePairs (pairs_of m) (pairs_of n)
 pairs_same m n h a b = (pairs_below m n (same_below m n h) a b, pairs_below n m (same_above m n h) a b)

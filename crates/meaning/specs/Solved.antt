@@ -1,12 +1,12 @@
 -- The laws of the climb to the least solution of a let rec group. Assumes nothing.
-use Rattle.std.specs.Prelude.{◌≡◌, ℕ, ◌*◌, ◌^◌, ◌<◌, ◌≤◌, List, [], length, slice_index}
+use Rattle.std.specs.Prelude.{◌≡◌, ℕ, ◌*◌, ◌^◌, ◌<◌, ◌≤◌, List, [], length, replicate, slice_index}
 use Rattle.std.proofs.Common.{sym, ◌∙◌, ap, subst, inl, inr, ⊎_elim, arith}
 use Rattle.std.proofs.Math.Path.{subst⁻¹}
-use Rattle.std.proofs.lemmas.List.{ext_get_or, get_or_past}
+use Rattle.std.proofs.lemmas.List.{ext_get_or, get_or_past, get_or-replicate, length-replicate}
 use Rattle.std.proofs.lemmas.Bool.{cases_lt}
 use Rattle.relation.specs.declared.relation.Relation.{Relation}
-use Rattle.relation.specs.Relations.{Pairs, Inside}
-use Rattle.relation.specs.Masks.{Related}
+use Rattle.relation.specs.Relations.{Pairs, Never, Inside}
+use Rattle.relation.specs.Masks.{Related, Shows}
 use Rattle.relation.specs.Climbs.{total}
 use Rattle.relation.specs.Alike.{same_rows}
 use Rattle.relation.specs.Bits.{in_nothing}
@@ -30,6 +30,15 @@ module _ {E : Type 0} where
   -- values with the same parts are the same
   pub same_solving : {x y : Solving E} → x.equations ≡ y.equations → x.found ≡ y.found → x ≡ y
   same_solving p q = λ i. record { equations = p i; found = q i }
+
+  -- a table of nothing
+  pub solving_bottom : (problem x : Solving E) (r : Relation) → x.equations ≡ problem.equations → x.found ≡ replicate 64 r → Shows r.rows Never → SolvingBegins problem x
+  solving_bottom problem x r p q s =
+      record {
+        equations = p;
+        long = ap length q ∙ length-replicate 64 r;
+        nothing = λ i l. subst⁻¹ (λ xs. Shows (rows_at xs i) Never) q (subst⁻¹ (λ y. Shows y.rows Never) (get_or-replicate 64 i r (record { rows = [] }) l) s);
+      }
 
   -- nothing is found at the start
   pub begins_empty : (problem x : Solving E) → SolvingBegins problem x → (i a b : ℕ) → Table x.found i a b → ⊥

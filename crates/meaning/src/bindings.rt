@@ -27,8 +27,12 @@ fn add_statement(base: &Base, statement: &Statement, values: &mut Values)
 {
     match statement {
         Statement::Let(binding) => {
-            let value = values.under(base).evaluate(&[], &binding.term);
-            values.push(value);
+            // No value is kept past the 64th, so no term is looked at there.
+            let many = values.as_slice().len();
+            if many < ROOM {
+                let value = values.under(base).evaluate(&[], &binding.term);
+                values.push(value);
+            }
         }
         Statement::Group(bindings) => {
             let found = solve(&values.under(base), bindings.as_slice());

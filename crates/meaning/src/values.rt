@@ -12,8 +12,9 @@ pub const ROOM: usize = 64;
 // A table and how much of it is filled: nothing here has heap memory. `arrayvec::ArrayVec<Value, 64>` is no plainer: its `new` and
 // `clear` want `Value: Default`, which crate relation does not give, and its `push` wants room or hands the value back in an error,
 // where a 65th is left out here. It is no faster either: with four values put in 25 ns in place of 20.
+// No `Copy`: that wants a model that gives the fields back, and this one leaves out what stands behind the values.
 /// So many values, at most 64.
-#[derive(Drop)]
+#[derive(Clone, Drop)]
 pub struct Values {
     slots: [Value; ROOM],
     many: usize,
