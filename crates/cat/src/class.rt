@@ -15,7 +15,7 @@ const MOST_OPEN: usize = 16;
 
 /// What a sort of token is to the limits: a name; the `=` behind a bound one; a check word; a bracket that opens or closes.
 #[derive(Clone, Copy, PartialEq, Eq, Debug)]
-pub(crate) enum Class {
+pub enum Class {
     Name,
     Equals,
     Word,
@@ -26,11 +26,11 @@ pub(crate) enum Class {
 
 /// How many of each stand before a token.
 #[derive(Clone, Copy, PartialEq, Eq, Debug, Default)]
-pub(crate) struct Tally {
-    equals: usize,
-    words: usize,
-    opened: usize,
-    closed: usize,
+pub struct Tally {
+    pub equals: usize,
+    pub words: usize,
+    pub opened: usize,
+    pub closed: usize,
 }
 
 impl Tally {
