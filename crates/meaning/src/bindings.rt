@@ -1,6 +1,6 @@
 //! The values of the bindings of a model, in text order.
 ghost use Rattle.std.specs.Prelude.{◌+◌, ◌≤◌, ◌++◌, map, length};
-ghost use Rattle.term.specs.Statements.{statement_of, statements_of};
+ghost use Rattle.term.specs.Statements.{groups, binding_of, statement_of, statements_of};
 ghost use Rattle.meaning.specs.Tables.{value_meaning, relation_meaning, AllMean};
 ghost use Rattle.meaning.specs.Knowns.{Added, Known};
 
@@ -9,6 +9,7 @@ use super::values::{ROOM, Values};
 use given::Base;
 use relation::{Relation, Value};
 use term::Statement;
+use term::statement::Binding;
 
 /// Puts relations behind the values that are known.
 fn put(found: &[Relation], values: &mut Values)
@@ -17,6 +18,16 @@ fn put(found: &[Relation], values: &mut Values)
     for relation in found {
         values.push(Value::pairs(*relation));
     }
+}
+
+/// Puts the least solution of a let rec group behind the values that are known. What comes past the 64th is left out.
+// Never inlined: the table of what is found is cleared where it is made, and lets and checks need none.
+#[inline(never)]
+fn add_group(base: &Base, bindings: &[Binding], values: &mut Values)
+    ensures { Added base.now (groups (map binding_of bindings.now)) values.old values.new }
+{
+    let found = solve(&values.under(base), bindings);
+    put(&found[..bindings.len().min(ROOM)], values);
 }
 
 // The base and the values stay two parameters: the one is read, the other written, and `under` joins them where a term is evaluated.
@@ -34,10 +45,7 @@ fn add_statement(base: &Base, statement: &Statement, values: &mut Values)
                 values.push(value);
             }
         }
-        Statement::Group(bindings) => {
-            let found = solve(&values.under(base), bindings.as_slice());
-            put(&found[..bindings.len().min(ROOM)], values);
-        }
+        Statement::Group(bindings) => add_group(base, bindings.as_slice(), values),
         Statement::Check(_) => {}
     }
 }
